@@ -1,0 +1,9 @@
+pub mod Ring
+pub mod Series
+pub mod Degree
+pub mod Evaluate
+pub mod Field
+pub mod Roots
+pub mod Run
+pub mod Locators
+pub mod Finds

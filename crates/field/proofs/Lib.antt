@@ -1,0 +1,9 @@
+pub mod SumLaws
+pub mod Horner
+pub mod Table
+pub mod ProductLaws
+pub mod PowerLaws
+pub mod Orbit
+pub mod Order
+pub mod Field
+pub mod Range

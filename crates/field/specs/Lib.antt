@@ -1,0 +1,4 @@
+pub mod Sum
+pub mod Product
+pub mod Power
+pub mod Tables
