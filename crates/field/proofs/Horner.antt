@@ -7,7 +7,7 @@ use native.Mathlib.Omega.{arith}
 use lib.Arith.{bin-ind, half-le}
 use Rattle.field.specs.Sum.{_⊕_}
 use Rattle.field.specs.Product.{digits, horner}
-use Rattle.field.proofs.SumLaws.{sum, sum-zero, zero-sum, sum-half, sum-exchange, sum-double, digit-cases, digit-times}
+use Rattle.field.proofs.SumLaws.{sum-zero, zero-sum, sum-half, sum-exchange, sum-double, digit-cases, digit-times}
 
 pub record Additive (f : ℕ → ℕ) : Type 0 where
   pub at-zero : f 0 ≡ 0

@@ -1,6 +1,6 @@
 pub mod SumLaws
 pub mod Horner
-pub mod Table
+pub mod Tests
 pub mod ProductLaws
 pub mod PowerLaws
 pub mod Orbit

@@ -9,7 +9,7 @@ use native.Mathlib.Decide.{ℕ-discrete}
 use native.Mathlib.Omega.{arith}
 use lib.Dec.{T, T-not, eqb, eqb→eq, eqb-refl}
 use Rattle.field.proofs.SumLaws.{digit-cases}
-use Rattle.field.proofs.Table.{both, both-left, both-right}
+use Rattle.field.proofs.Tests.{both, both-left, both-right}
 
 -- z and what f makes of it, n numbers in all
 abbrev pub orbit : (ℕ → ℕ) → ℕ → ℕ → List ℕ

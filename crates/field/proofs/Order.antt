@@ -12,7 +12,7 @@ use lib.Pow.{pow-mono}
 use Rattle.field.specs.Sum.{_⊕_}
 use Rattle.field.specs.Product.{polynomials, polynomial, Listed, shifted, _⊗⟨_⟩_}
 use Rattle.field.specs.Power.{a, nOf, power, inverse}
-use Rattle.field.proofs.Table.{both, both-left, both-right, passes, at-listed}
+use Rattle.field.proofs.Tests.{both, both-left, both-right, passes, at-listed}
 use Rattle.field.proofs.ProductLaws.{one-product, zero-product, times-a}
 use Rattle.field.proofs.PowerLaws.{power-zero, power-suc, power-bound, power-add, power-mul, one-power}
 use Rattle.field.proofs.Orbit.{orbit, firstOneLast, covers, covered, orbit-end, orbit-before, orbit-place}

@@ -10,7 +10,7 @@ use lib.Pow.{pow-lt, pow-pos}
 use Rattle.field.specs.Sum.{_⊕_}
 use Rattle.field.specs.Product.{polynomials, polynomial, Listed, horner, carryless, shifted, remainder, _⊗⟨_⟩_}
 use Rattle.field.proofs.SumLaws.{sum, sum-zero, zero-sum, sum-self, sum-bound, sum-above, sum-exchange, sum-double, digit-cases, digit-times, digits-sum}
-use Rattle.field.proofs.Table.{both, both-left, both-right, passes, at-listed}
+use Rattle.field.proofs.Tests.{both, both-left, both-right, passes, at-listed}
 use Rattle.field.proofs.Horner.{Additive, double-additive, horner-digits, horner-zero, horner-one, horner-double, horner-carry, sum-horner, digit-horner, zero-horner, start-additive, digits-additive}
 
 pub shifted-additive : (m p : ℕ) → Additive (shifted m p)

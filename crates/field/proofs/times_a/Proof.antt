@@ -5,7 +5,7 @@ use Prim.Native.Nat.{ℕ, _*_, _/_, _^_, _<_}
 use native.Mathlib.Nat.{mod-eq-of-lt, mul-le-mul-right, le-of-suc-le-suc}
 use native.Mathlib.Omega.{arith}
 use Rattle.field.specs.Sum.{_⊕_}
-use Rattle.field.specs.Product.{polynomial, shifted}
+use Rattle.field.specs.Product.{shifted}
 use Rattle.field.proofs.Range.{sizes, over-lt}
 use Rattle.field.proofs.ProductLaws.{times-a, degree}
 use Rattle.field.proofs.times_a.Statement.{statement}

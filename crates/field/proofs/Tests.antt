@@ -1,13 +1,13 @@
--- A fact of every listed m, by one test that antt computes at the eight of them.
+-- Tests that are computed, and the facts they tell: of every number in a range, of every listed m, of a list of tests.
 use mathlib.Core.Path.{_≡_, subst}
 use mathlib.Core.Bool.{Bool, true, false}
-use Prim.Native.Nat.{ℕ, zero, suc, _+_, _-_, _<_}
+use mathlib.Core.List.{List, [], _∷_}
+use Prim.Native.Nat.{ℕ, zero, suc, _+_, _-_, _≤_, _<_}
 use native.Mathlib.Nat.{add-zero, not-suc-le-zero}
 use native.Mathlib.Omega.{arith}
 use lib.Dec.{T}
 use Rattle.field.specs.Product.{Listed}
 
--- the second test waits for the first
 abbrev pub both : Bool → Bool → Bool
 both true b = b
 both false b = false
@@ -32,7 +32,22 @@ passed f s (suc n) t (suc k) h =
     let e : s + suc k ≡ suc s + k = omega arith in
     rw e (passed f (suc s) n (both-right (f s) (passes f (suc s) n) t) k (omega arith))
 
+pub passed-at : (f : ℕ → Bool) (s n : ℕ) → T (passes f s n) → (x : ℕ) → s ≤ x → x < s + n → T (f x)
+passed-at f s n t x l h =
+    let e : s + (x - s) ≡ x = omega arith in
+    subst (λ k. T (f k)) e (passed f s n t (x - s) (omega arith))
+
 pub at-listed : (f : ℕ → Bool) → T (passes f 3 8) → {m : ℕ} → Listed m → T (f m)
-at-listed f t {m} L =
-    let e : 3 + (m - 3) ≡ m = omega arith in
-    subst (λ k. T (f k)) e (passed f 3 8 t (m - 3) (omega arith))
+at-listed f t {m} L = passed-at f 3 8 t m (L .least) (omega arith)
+
+abbrev pub all : List Bool → Bool
+all [] = true
+all (b ∷ bs) = both b (all bs)
+
+pub data All : List Bool → Type 0 where
+  done : All []
+  also : {b : Bool} {bs : List Bool} → T b → All bs → All (b ∷ bs)
+
+pub all-passed : (bs : List Bool) → T (all bs) → All bs
+all-passed [] t = done
+all-passed (b ∷ bs) t = also (both-left b (all bs) t) (all-passed bs (both-right b (all bs) t))

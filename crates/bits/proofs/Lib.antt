@@ -1,0 +1,4 @@
+pub mod BitLaws
+pub mod Places
+pub mod DistanceLaws
+pub mod Turns

@@ -1,0 +1,46 @@
+-- What one turn of each loop does to the list that it works on.
+use mathlib.Core.Path.{_≡_, _∙_, ap}
+use mathlib.Core.List.{List, [], _∷_}
+use Prim.Native.Nat.{ℕ, zero, suc, _+_, _<_}
+use native.Mathlib.Nat.{zero-add, suc-add, not-suc-le-zero, le-of-suc-le-suc}
+use native.Mathlib.Omega.{arith}
+use lib.Bits.{bitXor}
+use lib.ListN.{length, getD, set, take}
+use lib.Seq.{length-take-le}
+use Rattle.bits.specs.Bits.{added, addedAt, flip, flipped}
+use Rattle.bits.proofs.BitLaws.{added-none, added-cons, addedAt-zero, addedAt-cons, addedAt-nil, addedAt-after, flipped-nil, flipped-cons}
+
+added-more : (d s : List ℕ) (i : ℕ) → i < length d → i < length s → set (added d (take i s)) i (bitXor (getD d i 0) (getD s i 0)) ≡ added d (take (suc i) s)
+added-more [] s i h k = absurd (not-suc-le-zero h)
+added-more (x ∷ d) [] i h k = absurd (not-suc-le-zero k)
+added-more (x ∷ d) (y ∷ s) zero h k = rw (added-none (x ∷ d), added-cons x d y [], added-none d)
+added-more (x ∷ d) (y ∷ s) (suc i) h k =
+    rw (added-cons x d y (take i s), added-cons x d y (take (suc i) s))
+    (ap (λ (l : List ℕ). bitXor x y ∷ l) (added-more d s i (le-of-suc-le-suc h) (le-of-suc-le-suc k)))
+
+more : (d : List ℕ) (at : ℕ) (s : List ℕ) (i : ℕ) → at + i < length d → i < length s
+    → set (addedAt d at (take i s)) (at + i) (bitXor (getD d (at + i) 0) (getD s i 0)) ≡ addedAt d at (take (suc i) s)
+more d zero s i h k = rw (zero-add i, addedAt-zero d (take i s), addedAt-zero d (take (suc i) s)) (added-more d s i (omega arith) k)
+more [] (suc at) s i h k = absurd (not-suc-le-zero h)
+more (x ∷ d) (suc at) s i h k =
+    rw (suc-add at i, addedAt-cons x d at (take i s), addedAt-cons x d at (take (suc i) s))
+    (ap (λ (l : List ℕ). x ∷ l) (more d at s i (omega arith) k))
+
+-- one more place added
+pub addedAt-more : (d : List ℕ) (at : ℕ) (s : List ℕ) (i : ℕ) → at + i < length d → i < length s
+    → set (addedAt d at (take i s)) (at + i) (bitXor (getD (addedAt d at (take i s)) (at + i) 0) (getD s i 0)) ≡ addedAt d at (take (suc i) s)
+addedAt-more d at s i h k =
+    let l : length (take i s) ≡ i = length-take-le i s (omega arith) in
+    rw (addedAt-after d at (take i s) (at + i) (omega arith)) (more d at s i h k)
+
+-- one more place turned over
+pub flipped-more : (d ps : List ℕ) (i : ℕ) → i < length ps → flipped d (take (suc i) ps) ≡ flip (flipped d (take i ps)) (getD ps i 0)
+flipped-more d [] i h = absurd (not-suc-le-zero h)
+flipped-more d (p ∷ ps) zero h = rw (flipped-nil d, flipped-cons d p [], flipped-nil (flip d p))
+flipped-more d (p ∷ ps) (suc i) h =
+    rw (flipped-cons d p (take (suc i) ps), flipped-cons d p (take i ps)) (flipped-more (flip d p) ps i (le-of-suc-le-suc h))
+
+pub addedAt-none : (d : List ℕ) (at : ℕ) → addedAt d at [] ≡ d
+addedAt-none d zero = addedAt-zero d [] ∙ added-none d
+addedAt-none [] (suc at) = addedAt-nil (suc at) []
+addedAt-none (x ∷ d) (suc at) = addedAt-cons x d at [] ∙ ap (λ (l : List ℕ). x ∷ l) (addedAt-none d at)

@@ -1,0 +1,42 @@
+-- Bits lent one to a byte.
+use mathlib.Core.Bool.{cond}
+use mathlib.Core.List.{List, [], _∷_, map}
+use Prim.Native.Nat.{ℕ, zero, suc, _-_, _*_, _≤_}
+use lib.Bits.{bitXor}
+use lib.Dec.{leb}
+use lib.ListN.{length, getD, set, replicate}
+
+-- every place holds 0 or 1
+pub record AreBits (xs : List ℕ) : Type 0 where
+  pub at : (i : ℕ) → getD xs i 0 ≤ 1
+
+-- the first place that holds more than 1, or the length where there is none
+unfoldable pub firstAbove : List ℕ → ℕ
+firstAbove [] = 0
+firstAbove (x ∷ xs) = cond (leb x 1) (suc (firstAbove xs)) 0
+
+-- ys added into xs from its first place on: exclusive-or, place by place
+unfoldable pub added : List ℕ → List ℕ → List ℕ
+added [] ys = []
+added (x ∷ xs) [] = x ∷ xs
+added (x ∷ xs) (y ∷ ys) = bitXor x y ∷ added xs ys
+
+-- the bit at place p turned over
+unfoldable pub flip : List ℕ → ℕ → List ℕ
+flip xs p = set xs p (1 - getD xs p 0)
+
+-- the bits at all places of the list turned over, one after another
+unfoldable pub flipped : List ℕ → List ℕ → List ℕ
+flipped xs [] = xs
+flipped xs (p ∷ ps) = flipped (flip xs p) ps
+
+-- ys added into xs from place at on
+unfoldable pub addedAt : List ℕ → ℕ → List ℕ → List ℕ
+addedAt xs zero ys = added xs ys
+addedAt [] (suc at) ys = []
+addedAt (x ∷ xs) (suc at) ys = x ∷ addedAt xs at ys
+
+-- the product of two polynomials over bits, place i the coefficient of x^i; it is as long as both together
+unfoldable pub productBits : List ℕ → List ℕ → List ℕ
+productBits [] ys = replicate (length ys) 0
+productBits (x ∷ xs) ys = added (0 ∷ productBits xs ys) (map (λ y. x * y) ys)

@@ -1,0 +1,153 @@
+-- Looking up finds the row of a listed t, and nothing for any other.
+use mathlib.Core.Path.{_≡_, _∙_, refl, sym, ap}
+use mathlib.Core.Bool.{Bool, true, cond}
+use Prim.Native.Nat.{ℕ, zero, suc, _+_, _-_, _≤_, _<_}
+use native.Mathlib.Decide.{ℕ-discrete, decLt}
+use native.Mathlib.Omega.{arith}
+use borrow.Author.Tests.{eq-eqb, ne-eqb, le-leb, lt-leb, lt-ltb, le-ltb}
+use lib.Dec.{T, leb, eqb, leb→le}
+use lib.ListN.{length, getD}
+use Rattle.field.specs.Product.{Listed}
+use Rattle.field.proofs.Tests.{both, both-left, both-right, passes, at-listed}
+use Rattle.sheet.specs.declared.Refusal.the-variants.{FieldSize, NotListed}
+use Rattle.codes.specs.declared.Look.the-variants.{Row, Refused}
+use Rattle.codes.specs.Table.{ks, ts, first, firsts, ListedCode}
+use Rattle.codes.specs.Look.{isField, rowFrom, rowOf, isListed, kOf, lookOf}
+use Rattle.codes.proofs.Rows.{row-unique}
+
+pub rowFrom-none : (r t : ℕ) → rowFrom 0 r t ≡ r
+unfolding rowFrom
+rowFrom-none r t = refl
+
+rowFrom-suc : (left r t : ℕ) → rowFrom (suc left) r t ≡ cond (eqb (getD ts r 0) t) r (rowFrom left (suc r) t)
+unfolding rowFrom
+rowFrom-suc left r t = refl
+
+pub rowFrom-here : (left r t : ℕ) → getD ts r 0 ≡ t → rowFrom (suc left) r t ≡ r
+rowFrom-here left r t e = rw (rowFrom-suc left r t, eq-eqb (getD ts r 0) t e)
+
+pub rowFrom-later : (left r t : ℕ) → (getD ts r 0 ≡ t → ⊥) → rowFrom (suc left) r t ≡ rowFrom left (suc r) t
+rowFrom-later left r t e = rw (rowFrom-suc left r t, ne-eqb (getD ts r 0) t e)
+
+pub ts-long : length ts ≡ 232
+unfolding ts
+ts-long = refl
+
+-- the rows of m stand in the table
+rowsTest : ℕ → Bool
+rowsTest m = both (leb (first m) (first (suc m))) (leb (first (suc m)) 232)
+
+rows-tested : T (passes rowsTest 3 8)
+unfolding rowsTest first firsts
+rows-tested = tt
+
+pub record RowsWithin (m : ℕ) : Type 0 where
+  pub ordered : first m ≤ first (suc m)
+  pub most : first (suc m) ≤ 232
+
+pub rows-within : {m : ℕ} → Listed m → RowsWithin m
+unfolding rowsTest
+rows-within {m} L =
+    let t = at-listed rowsTest rows-tested L in
+    record {
+      ordered = leb→le (first m) (first (suc m)) (both-left (leb (first m) (first (suc m))) (leb (first (suc m)) 232) t);
+      most = leb→le (first (suc m)) 232 (both-right (leb (first m) (first (suc m))) (leb (first (suc m)) 232) t);
+    }
+
+pub look-small : (m t : ℕ) → m < 3 → lookOf m t ≡ Refused FieldSize
+unfolding lookOf
+look-small m t h = rw (lt-leb 3 m h)
+
+pub look-large : (m t : ℕ) → 3 ≤ m → 10 < m → lookOf m t ≡ Refused FieldSize
+unfolding lookOf
+look-large m t h k = rw (le-leb 3 m h, lt-leb m 10 k)
+
+pub look-listed : (m t : ℕ) → Listed m → rowOf m t < first (suc m) → lookOf m t ≡ Row (rowOf m t) (kOf m t)
+unfolding lookOf isListed
+look-listed m t L h = rw (le-leb 3 m (L .least), le-leb m 10 (L .most), lt-ltb (rowOf m t) (first (suc m)) h)
+
+pub look-unlisted : (m t : ℕ) → Listed m → first (suc m) ≤ rowOf m t → lookOf m t ≡ Refused NotListed
+unfolding lookOf isListed
+look-unlisted m t L h = rw (le-leb 3 m (L .least), le-leb m 10 (L .most), le-ltb (rowOf m t) (first (suc m)) h)
+
+pub rowOf-from : (m t : ℕ) → rowOf m t ≡ rowFrom (first (suc m) - first m) (first m) t
+unfolding rowOf
+rowOf-from m t = refl
+
+pub kOf-row : (m t : ℕ) → kOf m t ≡ getD ks (rowOf m t) 0
+unfolding kOf
+kOf-row m t = refl
+
+-- what rowFrom finds among the rows from r up to, not including, r + left
+record Found (left r t row : ℕ) : Type 0 where
+  from : r ≤ row
+  has : row < r + left → getD ts row 0 ≡ t
+  none : r + left ≤ row → (q : ℕ) → r ≤ q → q < r + left → getD ts q 0 ≡ t → ⊥
+
+after : (left r t q : ℕ) → (getD ts r 0 ≡ t → ⊥) → ((p : ℕ) → suc r ≤ p → p < suc r + left → getD ts p 0 ≡ t → ⊥) → Dec (q ≡ r)
+    → r ≤ q → q < r + suc left → getD ts q 0 ≡ t → ⊥
+after left r t q n f (yes e) a b p = n (ap (λ (x : ℕ). getD ts x 0) (sym e) ∙ p)
+after left r t q n f (no d) a b p = f q (omega arith) (omega arith) p
+
+found-later : (left r t row : ℕ) → (getD ts r 0 ≡ t → ⊥) → Found left (suc r) t row → Found (suc left) r t row
+found-later left r t row n f =
+    record {
+      from = omega (arith, f .from);
+      has = λ h. f .has (omega arith);
+      none = λ h q a b e. after left r t q n (f .none (omega arith)) (ℕ-discrete q r) a b e;
+    }
+
+found : (left r t : ℕ) → Found left r t (rowFrom left r t)
+found zero r t = rw (rowFrom-none r t) (record { from = omega arith; has = λ h. absurd (omega arith); none = λ h q a b e. omega arith })
+found (suc left) r t = pick (found left (suc r) t) (ℕ-discrete (getD ts r 0) t)
+  where
+    pick : Found left (suc r) t (rowFrom left (suc r) t) → Dec (getD ts r 0 ≡ t) → Found (suc left) r t (rowFrom (suc left) r t)
+    pick f (yes e) = rw (rowFrom-here left r t e) (record { from = omega arith; has = λ h. e; none = λ h q a b p. omega arith })
+    pick f (no n) = rw (rowFrom-later left r t n) (found-later left r t (rowFrom left (suc r) t) n f)
+
+found-row : (m t : ℕ) → Found (first (suc m) - first m) (first m) t (rowOf m t)
+found-row m t = rw (rowOf-from m t) (found (first (suc m) - first m) (first m) t)
+
+-- a row that is found is the listed code's
+pub found-listed : {m : ℕ} → Listed m → (t : ℕ) → rowOf m t < first (suc m) → ListedCode m (kOf m t) t
+found-listed {m} L t h =
+    let f = found-row m t in
+    let w = rows-within L in
+    record {
+      row = rowOf m t;
+      of-m = record { listed = L; from = f .from; below = h };
+      is-k = sym (kOf-row m t);
+      is-t = f .has (omega arith);
+    }
+
+-- where none is found t is not listed
+pub unfound : {m : ℕ} → Listed m → (t : ℕ) → first (suc m) ≤ rowOf m t → (k : ℕ) → ListedCode m k t → ⊥
+unfound {m} L t h k c =
+    let f = found-row m t in
+    let w = rows-within L in
+    f .none (omega arith) (c .row) (c .of-m .from) (omega (arith, c .of-m .below)) (c .is-t)
+
+-- a listed code is found, at its own row
+pub listed-found : {m k t : ℕ} → ListedCode m k t → rowOf m t < first (suc m)
+listed-found {m} {k} {t} c = pick (decLt (rowOf m t) (first (suc m)))
+  where
+    pick : Dec (rowOf m t < first (suc m)) → rowOf m t < first (suc m)
+    pick (yes h) = h
+    pick (no n) = absurd (unfound (c .of-m .listed) t (omega arith) k c)
+
+pub listed-row : {m k t : ℕ} (c : ListedCode m k t) → rowOf m t ≡ c .row
+unfolding found-listed
+listed-row {m} {k} {t} c =
+    let d = found-listed (c .of-m .listed) t (listed-found c) in
+    row-unique (d .of-m) (c .of-m) (d .is-t ∙ sym (c .is-t))
+
+pub listed-k : {m k t : ℕ} → ListedCode m k t → kOf m t ≡ k
+listed-k {m} {k} {t} c = kOf-row m t ∙ ap (λ (r : ℕ). getD ks r 0) (listed-row c) ∙ c .is-k
+
+-- the tests of an operation's first two checks
+pub field-test : (m : ℕ) → Listed m → isField m ≡ true
+field-test m L = rw (le-leb 3 m (L .least), le-leb m 10 (L .most))
+
+pub listed-test : {m k t : ℕ} → ListedCode m k t → isListed m t ≡ true
+unfolding isListed
+listed-test {m} {k} {t} c = lt-ltb (rowOf m t) (first (suc m)) (listed-found c)

@@ -1,0 +1,6 @@
+pub mod Table
+pub mod Rule
+pub mod Sums
+pub mod Look
+pub mod Generator
+pub mod Work

@@ -1,0 +1,50 @@
+// The refusal sheet: one variant for each number, with the condition under which it is given where no earlier check has refused.
+
+ghost use mathlib.Core.Path.{_≡_};
+ghost use Rattle.sheet.specs.Number.{numberOf};
+
+pub enum Refusal {
+    // 1: m is not 3 to 10.
+    FieldSize,
+    // 2: t is not listed for m.
+    NotListed,
+    // 3: the message is not k long; a received or edited word is not n long.
+    InputLength,
+    // 4: an output buffer has the wrong length.
+    OutputLength,
+    // 5: a bit of a lent message, word or stretch is above 1.
+    BitAboveOne,
+    // 6: no code word within t; no set of places with the kept sums.
+    NothingNear,
+    // 7: in a kept record one of the first n bits is above 1 or one of the first t sums is 2^m or more.
+    RecordContents,
+    // 8: the mended word fails a second check of its sums.
+    SecondCheck,
+    // 9: a frame is not 32 bytes.
+    FrameLength,
+    // 10: a frame's last bit is 1.
+    PadBit,
+    // 11: a decoded frame's lead bits are wrong.
+    LeadBits,
+    // 12: a stretch runs past the end.
+    StretchEnd,
+}
+
+pub fn number(r: Refusal) -> u32
+    ensures { λ n. ⌜ n ≡ numberOf r ⌝ }
+{
+    match r {
+        Refusal::FieldSize => 1,
+        Refusal::NotListed => 2,
+        Refusal::InputLength => 3,
+        Refusal::OutputLength => 4,
+        Refusal::BitAboveOne => 5,
+        Refusal::NothingNear => 6,
+        Refusal::RecordContents => 7,
+        Refusal::SecondCheck => 8,
+        Refusal::FrameLength => 9,
+        Refusal::PadBit => 10,
+        Refusal::LeadBits => 11,
+        Refusal::StretchEnd => 12,
+    }
+}
