@@ -1,14 +1,14 @@
 -- What one turn of each loop does to the list that it works on.
-use mathlib.Core.Path.{_≡_, _∙_, ap}
-use mathlib.Core.List.{List, [], _∷_}
-use Prim.Native.Nat.{ℕ, zero, suc, _+_, _<_}
+use mathlib.Core.Path.{_≡_, _∙_, sym, ap}
+use mathlib.Core.List.{List, [], _∷_, _++_}
+use Prim.Native.Nat.{ℕ, zero, suc, _+_, _≤_, _<_}
 use native.Mathlib.Nat.{zero-add, suc-add, not-suc-le-zero, le-of-suc-le-suc}
 use native.Mathlib.Omega.{arith}
 use lib.Bits.{bitXor}
-use lib.ListN.{length, getD, set, take}
-use lib.Seq.{length-take-le}
-use Rattle.bits.specs.Bits.{added, addedAt, flip, flipped}
-use Rattle.bits.proofs.BitLaws.{added-none, added-cons, addedAt-zero, addedAt-cons, addedAt-nil, addedAt-after, flipped-nil, flipped-cons}
+use lib.ListN.{length, getD, set, take, drop, List·getD-append}
+use lib.Seq.{paste, length-paste-head, getD-append-add, take-length, take-append-seam, length-take-le}
+use Rattle.bits.specs.Bits.{AreBits, added, addedAt, flip, flipped}
+use Rattle.bits.proofs.BitLaws.{bits-append, bits-take, bits-drop, added-none, added-cons, addedAt-zero, addedAt-cons, addedAt-nil, addedAt-after, flipped-nil, flipped-cons}
 
 added-more : (d s : List ℕ) (i : ℕ) → i < length d → i < length s → set (added d (take i s)) i (bitXor (getD d i 0) (getD s i 0)) ≡ added d (take (suc i) s)
 added-more [] s i h k = absurd (not-suc-le-zero h)
@@ -44,3 +44,19 @@ pub addedAt-none : (d : List ℕ) (at : ℕ) → addedAt d at [] ≡ d
 addedAt-none d zero = addedAt-zero d [] ∙ added-none d
 addedAt-none [] (suc at) = addedAt-nil (suc at) []
 addedAt-none (x ∷ d) (suc at) = addedAt-cons x d at [] ∙ ap (λ (l : List ℕ). x ∷ l) (addedAt-none d at)
+
+-- the first places of a buffer into which a list was copied
+pub copied-front : (space g copy : List ℕ) → copy ≡ paste space 0 g (length g) → take (length g) copy ≡ g
+copied-front space g copy e =
+    ap (take (length g)) (e ∙ ap (λ (l : List ℕ). l ++ drop (0 + length g) space) (take-length g)) ∙ take-append-seam g (drop (0 + length g) space)
+
+-- what a copy leaves at the places copied to
+pub paste-at : (d : List ℕ) (at : ℕ) (s : List ℕ) (i : ℕ) → at ≤ length d → i < length s → getD (paste d at s (length s)) (at + i) 0 ≡ getD s i 0
+paste-at d at s i h k =
+    List·getD-append (take at d ++ take (length s) s) (drop (at + length s) d) 0 (at + i) (omega (arith, length-paste-head d at s (length s) h (omega arith)))
+    ∙ ap (λ (p : ℕ). getD (take at d ++ take (length s) s) (p + i) 0) (sym (length-take-le at d h))
+    ∙ getD-append-add (take at d) (take (length s) s) i 0
+    ∙ ap (λ (l : List ℕ). getD l i 0) (take-length s)
+
+pub bits-paste : {d s : List ℕ} (at : ℕ) → AreBits d → AreBits s → AreBits (paste d at s (length s))
+bits-paste {d} {s} at b c = bits-append (bits-append (bits-take at b) (bits-take (length s) c)) (bits-drop (at + length s) b)

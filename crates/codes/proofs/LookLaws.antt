@@ -10,9 +10,11 @@ use lib.ListN.{length, getD}
 use Rattle.field.specs.Product.{Listed}
 use Rattle.field.proofs.Tests.{both, both-left, both-right, passes, at-listed}
 use Rattle.sheet.specs.declared.Refusal.the-variants.{FieldSize, NotListed}
+use Rattle.sheet.specs.Number.{numberOf}
+use Rattle.codes.specs.declared.Look.{Look}
 use Rattle.codes.specs.declared.Look.the-variants.{Row, Refused}
-use Rattle.codes.specs.Table.{ks, ts, first, firsts, ListedCode}
-use Rattle.codes.specs.Look.{isField, rowFrom, rowOf, isListed, kOf, lookOf}
+use Rattle.codes.specs.Table.{ks, ts, first, firsts, RowOf, ListedCode}
+use Rattle.codes.specs.Look.{isField, rowFrom, rowOf, isListed, kOf, lookOf, codeRefusal}
 use Rattle.codes.proofs.Rows.{row-unique}
 
 pub rowFrom-none : (r t : ℕ) → rowFrom 0 r t ≡ r
@@ -151,3 +153,25 @@ field-test m L = rw (le-leb 3 m (L .least), le-leb m 10 (L .most))
 pub listed-test : {m k t : ℕ} → ListedCode m k t → isListed m t ≡ true
 unfolding isListed
 listed-test {m} {k} {t} c = lt-ltb (rowOf m t) (first (suc m)) (listed-found c)
+
+-- past the first two checks
+pub code-accepted : {m k t : ℕ} → ListedCode m k t → (later : ℕ) → codeRefusal m t later ≡ later
+code-accepted {m} {k} {t} c later = rw (le-leb 3 m (c .of-m .listed .least), le-leb m 10 (c .of-m .listed .most), listed-test c)
+
+-- what looking up tells
+abbrev pub Looked : ℕ → ℕ → Look → Type 0
+Looked m t (Row row k) = RowOf m row × (k ≡ getD ks row 0) × (t ≡ getD ts row 0)
+Looked m t (Refused r) = (later : ℕ) → codeRefusal m t later ≡ numberOf r
+
+pub looked : (m t : ℕ) (look : Look) → look ≡ lookOf m t → Looked m t look
+unfolding found-listed isListed
+looked m t look e = rw e (tells (decLt m 3) (decLt 10 m))
+  where
+    listed : Listed m → Dec (rowOf m t < first (suc m)) → Looked m t (lookOf m t)
+    listed L (yes h) = rw (look-listed m t L h) (let c = found-listed L t h in (c .of-m, kOf-row m t, sym (c .is-t)))
+    listed L (no n) = rw (look-unlisted m t L (omega arith)) (λ later. rw (le-leb 3 m (L .least), le-leb m 10 (L .most), le-ltb (rowOf m t) (first (suc m)) (omega arith)))
+
+    tells : Dec (m < 3) → Dec (10 < m) → Looked m t (lookOf m t)
+    tells (yes h) d = rw (look-small m t h) (λ later. rw (lt-leb 3 m h))
+    tells (no n) (yes h) = rw (look-large m t (omega arith) h) (λ later. rw (le-leb 3 m (omega arith), lt-leb m 10 h))
+    tells (no n) (no p) = listed (record { least = omega arith; most = omega arith }) (decLt (rowOf m t) (first (suc m)))

@@ -1,9 +1,10 @@
 -- Looking a code up: the field sizes, the row of a listed t, its k.
-use mathlib.Core.Bool.{Bool, cond, _&&_}
+use mathlib.Core.Bool.{Bool, cond, not, _&&_}
 use Prim.Native.Nat.{ℕ, zero, suc, _-_}
 use lib.Dec.{leb, ltb, eqb}
 use lib.ListN.{getD}
 use Rattle.sheet.specs.declared.Refusal.the-variants.{FieldSize, NotListed}
+use Rattle.sheet.specs.Number.{refuseIf}
 use Rattle.codes.specs.Table.{ks, ts, first}
 use Rattle.codes.specs.declared.Look.{Look}
 use Rattle.codes.specs.declared.Look.the-variants.{Row, Refused}
@@ -30,3 +31,7 @@ kOf m t = getD ks (rowOf m t) 0
 
 unfoldable pub lookOf : ℕ → ℕ → Look
 lookOf m t = cond (isField m) (cond (isListed m t) (Row (rowOf m t) (kOf m t)) (Refused NotListed)) (Refused FieldSize)
+
+-- the first two checks of every operation on (m, t), and then the later ones
+abbrev pub codeRefusal : ℕ → ℕ → ℕ → ℕ
+codeRefusal m t later = refuseIf (not (isField m)) 1 (refuseIf (not (isListed m t)) 2 later)

@@ -2,7 +2,7 @@
 
 ghost use mathlib.Core.Path.{_≡_};
 ghost use Prim.Native.Nat.{_+_, _-_, _≤_, _<_};
-ghost use lib.ListN.{length, getD, replicate};
+ghost use lib.ListN.{length, getD, take, replicate};
 ghost use Rattle.bits.specs.Bits.{AreBits};
 ghost use Rattle.field.specs.Power.{nOf};
 ghost use Rattle.codes.specs.Table.{ts as Table·ts, minimals as Table·minimals};
@@ -134,6 +134,17 @@ pub fn fill_generator(m: usize, row: usize, g: &mut [u8])
     let from = table::first_row(m);
     set_one(g);
     multiply_rows(g, &minimals, from, row + 1);
+}
+
+// The same at the front of room for any generator, d being its degree.
+pub fn generator(m: usize, row: usize, d: usize) -> [u8; 1024]
+    requires { ⌜ RowOf m row × (d ≡ nOf m - getD ks row 0) ⌝ }
+    ensures { λ r. ⌜ Generator m (getD Table·ts row 0) d (take (d + 1) r) × (1024 ≡ length r) ⌝ }
+{
+    let mut space = word_space();
+    let end = d + 1;
+    fill_generator(m, row, &mut space[..end]);
+    space
 }
 
 // Takes g, moved up so that its top place d stands at place i, away where the word holds 1 there.

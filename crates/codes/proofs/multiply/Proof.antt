@@ -1,20 +1,15 @@
 -- A copy of g is what the taps are taken from.
 use borrow.Author.Needs.{needs}
 use mathlib.Core.Path.{_≡_, _∙_, sym, ap, subst}
-use mathlib.Core.List.{List, _++_}
-use Prim.Native.Nat.{ℕ, _+_}
-use lib.ListN.{length, take, drop, replicate}
-use lib.Seq.{paste, take-length, take-append-seam}
+use mathlib.Core.List.{List}
+use Prim.Native.Nat.{ℕ}
+use lib.ListN.{length, replicate}
+use Rattle.bits.proofs.Turns.{copied-front}
 use Rattle.bits.specs.Bits.{AreBits}
 use Rattle.codes.specs.Work.{Multiplied}
 use borrow.Author.Needs.{needs}
 use Rattle.codes.proofs.multiply.Statement.{statement}
 use Rattle.codes.proofs.multiply.Tie as tie
-
--- the first places of the copy
-copied : (space g copy : List ℕ) → copy ≡ paste space 0 g (length g) → take (length g) copy ≡ g
-copied space g copy e =
-    ap (take (length g)) (e ∙ ap (λ (l : List ℕ). l ++ drop (0 + length g) space) (take-length g)) ∙ take-append-seam g (drop (0 + length g) space)
 
 whole : {p : ℕ} {old g after : List ℕ} → old ≡ g → Multiplied p old after → Multiplied p g after
 whole {p} {after = after} e m = subst (λ (l : List ℕ). Multiplied p l after) e m
@@ -35,11 +30,11 @@ array-share-prefix-space : tie.Need-array-share-prefix-space
 array-share-prefix-space c = search needs
 
 slice-aggregate-add-taps : tie.Need-slice-aggregate-add-taps
-slice-aggregate-add-taps c = sym (ap length (copied _ (c .before .before .before .before .before .before .before .before .before .before .before .before .args .g .now) _ (c .before .before .before .before .before .before .before .copy-at .ensures)))
+slice-aggregate-add-taps c = sym (ap length (copied-front _ (c .before .before .before .before .before .before .before .before .before .before .before .before .args .g .now) _ (c .before .before .before .before .before .before .before .copy-at .ensures)))
 
 add-taps-requires : tie.Need-add-taps-requires
 add-taps-requires c κs =
-    let e = copied _ (c .before .before .before .before .before .before .before .before .before .before .before .before .args .g .now) _ (c .before .before .before .before .before .before .before .copy-at .ensures) in
+    let e = copied-front _ (c .before .before .before .before .before .before .before .before .before .before .before .before .args .g .now) _ (c .before .before .before .before .before .before .before .copy-at .ensures) in
     (c .before .before .before .before .clear .ensures ∙ ap (λ (l : List ℕ). replicate (length l) 0) (sym e), subst AreBits (sym e) (c .before .before .before .before .before .before .before .before .before .before .before .before .pre .0))
 
 same-length : tie.Need-same-length
@@ -47,7 +42,7 @@ same-length c = search needs
 
 returns : tie.Need-returns
 returns c =
-    let e = copied _ (c .before .before .before .before .before .before .before .before .before .before .before .before .before .before .before .args .g .now) _ (c .before .before .before .before .before .before .before .before .before .before .copy-at .ensures) in
+    let e = copied-front _ (c .before .before .before .before .before .before .before .before .before .before .before .before .before .before .before .args .g .now) _ (c .before .before .before .before .before .before .before .before .before .before .copy-at .ensures) in
     whole e (c .before .before .add-taps .ensures)
 
 pub multiply-spec : {M : Type 1} → statement M

@@ -1,0 +1,3 @@
+pub mod Parity
+pub mod DescribeLaws
+pub mod EncodeLaws

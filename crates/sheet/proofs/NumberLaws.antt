@@ -1,0 +1,50 @@
+-- The sheet's numbers are positive and tell the refusals apart; a check that does not refuse leaves it to the later ones.
+use mathlib.Core.Path.{_≡_, _∙_, refl, sym, ap}
+use mathlib.Core.Bool.{Bool, true, false}
+use mathlib.Core.List.{List, [], _∷_}
+use mathlib.Core.Logic.{_≢_}
+use Prim.Native.Nat.{ℕ, _≤_}
+use native.Mathlib.Omega.{arith}
+use lib.ListN.{getD}
+use Rattle.sheet.specs.declared.Refusal.{Refusal}
+use Rattle.sheet.specs.declared.Refusal.the-variants.{FieldSize, NotListed, InputLength, OutputLength, BitAboveOne, NothingNear, RecordContents, SecondCheck, FrameLength, PadBit, LeadBits, StretchEnd}
+use Rattle.sheet.specs.Number.{numberOf, refuseIf}
+
+-- the refusals in the order of their numbers
+sheet : List Refusal
+sheet =
+    FieldSize
+    ∷ FieldSize ∷ NotListed ∷ InputLength ∷ OutputLength ∷ BitAboveOne ∷ NothingNear ∷ RecordContents ∷ SecondCheck ∷ FrameLength ∷ PadBit ∷ LeadBits ∷ StretchEnd ∷ []
+
+-- each refusal stands at its number
+found : (r : Refusal) → getD sheet (numberOf r) FieldSize ≡ r
+unfolding sheet
+found FieldSize = refl
+found NotListed = refl
+found InputLength = refl
+found OutputLength = refl
+found BitAboveOne = refl
+found NothingNear = refl
+found RecordContents = refl
+found SecondCheck = refl
+found FrameLength = refl
+found PadBit = refl
+found LeadBits = refl
+found StretchEnd = refl
+
+pub number-tells : {r s : Refusal} → numberOf r ≡ numberOf s → r ≡ s
+number-tells {r} {s} e = sym (found r) ∙ ap (λ (n : ℕ). getD sheet n FieldSize) e ∙ found s
+
+pub number-positive : (r : Refusal) → 1 ≤ numberOf r
+number-positive FieldSize = omega arith
+number-positive NotListed = omega arith
+number-positive InputLength = omega arith
+number-positive OutputLength = omega arith
+number-positive BitAboveOne = omega arith
+number-positive NothingNear = omega arith
+number-positive RecordContents = omega arith
+number-positive SecondCheck = omega arith
+number-positive FrameLength = omega arith
+number-positive PadBit = omega arith
+number-positive LeadBits = omega arith
+number-positive StretchEnd = omega arith
