@@ -175,3 +175,23 @@ looked m t look e = rw e (tells (decLt m 3) (decLt 10 m))
     tells (yes h) d = rw (look-small m t h) (λ later. rw (lt-leb 3 m h))
     tells (no n) (yes h) = rw (look-large m t (omega arith) h) (λ later. rw (le-leb 3 m (omega arith), lt-leb m 10 h))
     tells (no n) (no p) = listed (record { least = omega arith; most = omega arith }) (decLt (rowOf m t) (first (suc m)))
+
+-- what is not refused by the first two checks is a listed code, and goes on to the later ones
+pub code-listed : (m t later : ℕ) → codeRefusal m t later ≡ 0 → ListedCode m (kOf m t) t
+unfolding isListed
+code-listed m t later z = tells (decLt m 3) (decLt 10 m)
+  where
+    listed : Listed m → Dec (rowOf m t < first (suc m)) → ListedCode m (kOf m t) t
+    listed L (yes h) = found-listed L t h
+    listed L (no n) =
+        let e : codeRefusal m t later ≡ 2 = rw (le-leb 3 m (L .least), le-leb m 10 (L .most), le-ltb (rowOf m t) (first (suc m)) (omega arith)) in
+        absurd (omega arith)
+
+    tells : Dec (m < 3) → Dec (10 < m) → ListedCode m (kOf m t) t
+    tells (yes h) d =
+        let e : codeRefusal m t later ≡ 1 = rw (lt-leb 3 m h) in
+        absurd (omega arith)
+    tells (no n) (yes h) =
+        let e : codeRefusal m t later ≡ 1 = rw (le-leb 3 m (omega arith), lt-leb m 10 h) in
+        absurd (omega arith)
+    tells (no n) (no p) = listed (record { least = omega arith; most = omega arith }) (decLt (rowOf m t) (first (suc m)))

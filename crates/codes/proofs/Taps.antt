@@ -19,10 +19,10 @@ use Rattle.codes.proofs.Binary.{binary-zero, binary-more, length-binary
 use Rattle.codes.proofs.ProductPlaces.{product-none, product-snoc}
 
 -- what stands at a place of old moved up by e places
-delayed-before : (e : ℕ) (old : List ℕ) (i : ℕ) → i < e → getD (replicate e 0 ++ old) i 0 ≡ 0
+pub delayed-before : (e : ℕ) (old : List ℕ) (i : ℕ) → i < e → getD (replicate e 0 ++ old) i 0 ≡ 0
 delayed-before e old i h = List·getD-append (replicate e 0) old 0 i (omega (arith, length-replicate {A = ℕ} e 0)) ∙ zeros-at e i
 
-delayed-at : (e : ℕ) (old : List ℕ) (i : ℕ) → e ≤ i → getD (replicate e 0 ++ old) i 0 ≡ getD old (i - e) 0
+pub delayed-at : (e : ℕ) (old : List ℕ) (i : ℕ) → e ≤ i → getD (replicate e 0 ++ old) i 0 ≡ getD old (i - e) 0
 delayed-at e old i h =
     let k : i ≡ length (replicate {A = ℕ} e 0) + (i - e) = omega (arith, length-replicate {A = ℕ} e 0) in
     ap (λ (j : ℕ). getD (replicate e 0 ++ old) j 0) k ∙ getD-append-add (replicate e 0) old (i - e) 0
