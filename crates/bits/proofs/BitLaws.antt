@@ -4,7 +4,7 @@ use mathlib.Core.Logic.{_≢_, _↔_}
 use mathlib.Core.Bool.{Bool, true, false, cond}
 use mathlib.Core.List.{List, [], _∷_, _++_, map}
 use Prim.Native.Nat.{ℕ, zero, suc, _+_, _-_, _*_, _≤_, _<_}
-use native.Mathlib.Nat.{zero-add, suc-add, lt-of-not-le, suc-inj, zero-mul, one-mul, mul-zero}
+use native.Mathlib.Nat.{le-antisymm, zero-add, suc-add, lt-of-not-le, suc-inj, zero-mul, one-mul, mul-zero}
 use native.Mathlib.Decide.{decLe}
 use native.Mathlib.Omega.{arith}
 use lib.Bits.{bitXor, xor-lt, xor-zero-r, xor-self, xor-comm}
@@ -356,3 +356,7 @@ firstAbove-of-bits (x ∷ xs) b = firstAbove-bit xs (bits-head b) ∙ ap suc (fi
 
 pub bits-exactly : (xs : List ℕ) → (firstAbove xs ≡ length xs) ↔ AreBits xs
 bits-exactly xs = (bits-of-firstAbove xs, firstAbove-of-bits xs)
+
+-- a search that has come to the end has found nothing
+pub all-bits : (xs : List ℕ) {bad : ℕ} → bad ≡ firstAbove xs → length xs ≤ bad → AreBits xs
+all-bits xs {bad} e h = bits-of-firstAbove xs (le-antisymm (firstAbove-most xs) (rw (← e) h))

@@ -1,3 +1,5 @@
 pub mod Parity
 pub mod DescribeLaws
 pub mod EncodeLaws
+pub mod DecodeLaws
+pub mod DecodeSteps

@@ -1,2 +1,3 @@
 pub mod Describe
 pub mod Encode
+pub mod Decode

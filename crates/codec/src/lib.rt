@@ -1,8 +1,11 @@
 // The operations on whole words: Describe, Encode.
 
+mod decoding;
 mod describing;
 mod encoding;
 
+pub use decoding::Decoded;
+pub use decoding::decode;
 pub use describing::Described;
 pub use describing::describe;
 pub use encoding::Encoded;

@@ -8,14 +8,14 @@ use borrow.Author.Tests.{eq-eqb, ne-eqb, le-leb, lt-leb, lt-ltb, le-ltb}
 use lib.Dec.{T, leb, eqb, leb→le}
 use lib.ListN.{length, getD}
 use Rattle.field.specs.Product.{Listed}
-use Rattle.field.proofs.Tests.{both, both-left, both-right, passes, at-listed}
+use Rattle.field.proofs.Tests.{both, both-left, both-right, passes, passed-at, at-listed}
 use Rattle.sheet.specs.declared.Refusal.the-variants.{FieldSize, NotListed}
 use Rattle.sheet.specs.Number.{numberOf}
 use Rattle.codes.specs.declared.Look.{Look}
 use Rattle.codes.specs.declared.Look.the-variants.{Row, Refused}
 use Rattle.codes.specs.Table.{ks, ts, first, firsts, RowOf, ListedCode}
-use Rattle.codes.specs.Look.{isField, rowFrom, rowOf, isListed, kOf, lookOf, codeRefusal}
-use Rattle.codes.proofs.Rows.{row-unique}
+use Rattle.codes.specs.Look.{isField, rowFrom, rowOf, isListed, kOf, lookOf, codeRefusal, Accepted}
+use Rattle.codes.proofs.Rows.{row-unique, row-facts}
 
 pub rowFrom-none : (r t : ℕ) → rowFrom 0 r t ≡ r
 unfolding rowFrom
@@ -195,3 +195,24 @@ code-listed m t later z = tells (decLt m 3) (decLt 10 m)
         let e : codeRefusal m t later ≡ 1 = rw (le-leb 3 m (omega arith), lt-leb m 10 h) in
         absurd (omega arith)
     tells (no n) (no p) = listed (record { least = omega arith; most = omega arith }) (decLt (rowOf m t) (first (suc m)))
+
+-- no t of the table is above 255
+smallTest : ℕ → Bool
+smallTest r = leb (getD ts r 0) 255
+
+small-tested : T (passes smallTest 0 232)
+unfolding smallTest ts
+small-tested = tt
+
+pub accepted : {m row t : ℕ} → RowOf m row → t ≡ getD ts row 0 → Accepted m t
+unfolding smallTest
+accepted {m} {row} {t} w e =
+    let f = row-facts w in
+    let l = rows-within (w .listed) in
+    let b = leb→le (getD ts row 0) 255 (passed-at smallTest 0 232 small-tested row (omega arith) (omega (arith, w .below))) in
+    record {
+      listed = w .listed;
+      positive = omega (arith, f .positive);
+      most = omega arith;
+      passes = rw e (code-accepted (record { row = row; of-m = w; is-k = refl; is-t = refl }));
+    }

@@ -2,7 +2,7 @@
 use mathlib.Core.Path.{_≡_, _∙_, refl, sym, ap, ap₂}
 use mathlib.Core.Logic.{_≢_}
 use mathlib.Core.List.{List, [], _∷_, _++_, List·Memᴰ, List·Memᴰ·head, List·Memᴰ·tail}
-use Prim.Native.Nat.{ℕ, zero, suc, _+_, _*_, _%_, _^_, _≤_, _<_, _-_}
+use Prim.Native.Nat.{ℕ, zero, suc, _+_, _*_, _%_, _^_, _≤_, _<_, _-_, _/_}
 use native.Mathlib.Nat.{add-suc, zero-mul, one-mul, mul-one, mul-left-comm, suc-mul, add-mul, pow-suc, mod-lt}
 use native.Mathlib.Decide.{ℕ-discrete}
 use native.Mathlib.Omega.{arith}
@@ -297,3 +297,21 @@ module _ {m : ℕ} (L : Listed m) where
       pick (no e) =
           absurd (no-zero-divisors L (1 ⊕ power m a j) (sumOf m j ones) (sum-bound m (one-bound L) (power-bound L a j)) (sum-bounded j ones (bits-ones (nOf m))) not-one e
           (sum-row j (nOf m) ∙ ap (λ z. 1 ⊕ z) round ∙ sum-self 1))
+
+-- "Over bits S_(2j) is the square of S_j, so S_1, S_3, .. S_(2t-1) are enough."
+module _ {m : ℕ} (L : Listed m) (xs : List ℕ) (b : AreBits xs) (t : ℕ) (odd : (i : ℕ) → i < t → sumOf m (2 * i + 1) xs ≡ 0) where
+  vanish-to : (most j : ℕ) → j ≤ most → 1 ≤ j → j ≤ 2 * t → sumOf m j xs ≡ 0
+  vanish-to zero j h l u = absurd (omega arith)
+  vanish-to (suc most) j h l u = pick (vanish-to most (j / 2)) (ℕ-discrete (j % 2) 0)
+    where
+      pick : (j / 2 ≤ most → 1 ≤ j / 2 → j / 2 ≤ 2 * t → sumOf m (j / 2) xs ≡ 0) → Dec (j % 2 ≡ 0) → sumOf m j xs ≡ 0
+      pick f (yes e) =
+          let half : j ≡ 2 * (j / 2) = omega arith in
+          let z = f (omega arith) (omega arith) (omega arith) in
+          ap (λ (k : ℕ). sumOf m k xs) half ∙ sum-square L (j / 2) xs b ∙ ap (λ (s : ℕ). s ⊗⟨ m ⟩ sumOf m (j / 2) xs) z ∙ zero-product m (sumOf m (j / 2) xs)
+      pick f (no n) =
+          let same : j ≡ 2 * (j / 2) + 1 = omega arith in
+          ap (λ (k : ℕ). sumOf m k xs) same ∙ odd (j / 2) (omega arith)
+
+  pub odd-sums : (j : ℕ) → 1 ≤ j → j ≤ 2 * t → sumOf m j xs ≡ 0
+  odd-sums j l u = vanish-to j j (omega arith) l u

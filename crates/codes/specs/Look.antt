@@ -1,6 +1,8 @@
 -- Looking a code up: the field sizes, the row of a listed t, its k.
+use mathlib.Core.Path.{_≡_}
 use mathlib.Core.Bool.{Bool, cond, not, _&&_}
-use Prim.Native.Nat.{ℕ, zero, suc, _-_}
+use Prim.Native.Nat.{ℕ, zero, suc, _-_, _≤_}
+use Rattle.field.specs.Product.{Listed}
 use lib.Dec.{leb, ltb, eqb}
 use lib.ListN.{getD}
 use Rattle.sheet.specs.declared.Refusal.the-variants.{FieldSize, NotListed}
@@ -35,3 +37,10 @@ lookOf m t = cond (isField m) (cond (isListed m t) (Row (rowOf m t) (kOf m t)) (
 -- the first two checks of every operation on (m, t), and then the later ones
 abbrev pub codeRefusal : ℕ → ℕ → ℕ → ℕ
 codeRefusal m t later = refuseIf (not (isField m)) 1 (refuseIf (not (isListed m t)) 2 later)
+
+-- (m, t) is listed, so that the first two checks pass
+pub record Accepted (m t : ℕ) : Type 0 where
+  pub listed : Listed m
+  pub positive : 1 ≤ t
+  pub most : t ≤ 255
+  pub passes : (later : ℕ) → codeRefusal m t later ≡ later

@@ -1,22 +1,14 @@
 -- The checks in their order, then the word.
 use borrow.Author.Needs.{needs}
-use mathlib.Core.Path.{_≡_, _∙_, ap₂}
-use mathlib.Core.List.{List}
-use Prim.Native.Nat.{ℕ, _-_, _≤_}
+use mathlib.Core.Path.{_∙_, ap₂}
+use Prim.Native.Nat.{ℕ, _-_}
 use native.Mathlib.Omega.{arith}
-use native.Mathlib.Nat.{le-antisymm}
-use lib.ListN.{length}
-use Rattle.bits.specs.Bits.{AreBits, firstAbove}
-use Rattle.bits.proofs.BitLaws.{bits-of-firstAbove, firstAbove-most}
+use Rattle.bits.proofs.BitLaws.{all-bits}
 use Rattle.codes.proofs.Rows.{row-facts}
 use Rattle.codec.proofs.EncodeLaws.{encode-message, encode-word, encode-bit, encode-done}
 use borrow.Author.Needs.{needs}
 use Rattle.codec.proofs.encoding.encode_row.Statement.{statement}
 use Rattle.codec.proofs.encoding.encode_row.Tie as tie
-
--- no place above 1 was found
-all-bits : (xs : List ℕ) (bad : ℕ) → bad ≡ firstAbove xs → length xs ≤ bad → AreBits xs
-all-bits xs bad e h = bits-of-firstAbove xs (le-antisymm (firstAbove-most xs) (rw (← e) h))
 
 n-of-requires : tie.Need-n-of-requires
 n-of-requires c κs = search needs
@@ -39,7 +31,7 @@ sub-fill-word c = let f = row-facts (c .before .before .before .before .before .
 fill-word-requires : tie.Need-fill-word-requires
 fill-word-requires c κs =
     let p = c .before .before .before .before .before .before .before .before .pre in
-    (p .0, ap₂ (λ (x y : ℕ). x - y) (c .before .before .before .before .before .n-of .ensures) (p .1), all-bits _ _ (c .before .before .first-above-one .ensures) (c .before .if3 .left), c .before .before .before .before .if1 .left ∙ p .1, c .before .before .before .if2 .left ∙ c .before .before .before .before .before .n-of .ensures)
+    (p .0, ap₂ (λ (x y : ℕ). x - y) (c .before .before .before .before .before .n-of .ensures) (p .1), all-bits _ (c .before .before .first-above-one .ensures) (c .before .if3 .left), c .before .before .before .before .if1 .left ∙ p .1, c .before .before .before .if2 .left ∙ c .before .before .before .before .before .n-of .ensures)
 
 same-length : tie.Need-same-length
 same-length c = search needs

@@ -1,0 +1,54 @@
+-- A code word passes the second check.
+use borrow.Author.Needs.{needs}
+use mathlib.Core.Path.{_≡_, _∙_, refl, sym, ap}
+use mathlib.Core.Bool.{Bool, true, not, true≢false}
+use mathlib.Core.List.{List}
+use Prim.Native.Nat.{ℕ}
+use native.Mathlib.Omega.{arith}
+use lib.ListN.{length}
+use lib.Seq.{paste, take-all}
+use Rattle.bits.proofs.Turns.{copied-front}
+use borrow.Author.Needs.{needs}
+use Rattle.codec.proofs.decoding.put_checked.Statement.{statement}
+use Rattle.codec.proofs.decoding.put_checked.Tie as tie
+
+clash : (b : Bool) → b ≡ true → not b ≡ true → ⊥
+clash b e n = true≢false (sym n ∙ ap not e)
+
+copied : (word mended copy : List ℕ) → length word ≡ length mended → length copy ≡ length word → copy ≡ paste word 0 mended (length mended) → copy ≡ mended
+copied word mended copy l k e = sym (take-all (length mended) copy (omega arith)) ∙ copied-front word mended copy e
+
+sums-vanish-requires : tie.Need-sums-vanish-requires
+sums-vanish-requires c κs = search needs
+
+returns : tie.Need-returns
+returns c = absurd (clash _ (c .before .sums-vanish .ensures (λ i h. c .before .before .before .before .before .before .before .before .pre .2 .sums _ (omega arith) (omega arith))) (c .if1 .taken))
+
+copy-at-requires : tie.Need-copy-at-requires
+copy-at-requires c κs = search needs
+
+put-list-requires : tie.Need-put-list-requires
+put-list-requires c κs = search needs
+
+same-length : tie.Need-same-length
+same-length c = search needs
+
+same-length-2 : tie.Need-same-length-2
+same-length-2 c = search needs
+
+returns-2 : tie.Need-returns-2
+returns-2 c =
+    let p = c .before .before .before .before .before .before .before .before .before .before .before .before .before .before .before .before .pre in
+    record { answers = refl; is-word = copied (c .before .before .before .before .before .before .before .before .before .before .before .before .before .before .before .before .args .word .now) (c .before .before .before .before .before .before .before .before .before .before .before .before .before .before .before .before .args .mended .now) _ (p .3) (c .before .before .before .before .before .before .copy-at .kept .0) (c .before .before .before .before .before .before .copy-at .ensures); is-list = c .before .before .put-list .ensures }
+
+pub put-checked-spec : {M : Type 1} → statement M
+put-checked-spec =
+    tie.close
+    (tie.spec
+    sums-vanish-requires
+    returns
+    copy-at-requires
+    put-list-requires
+    same-length
+    same-length-2
+    returns-2)

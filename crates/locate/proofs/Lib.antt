@@ -1,0 +1,6 @@
+pub mod FillLaws
+pub mod SumSteps
+pub mod MendLaws
+pub mod TrialLaws
+pub mod RunLaws
+pub mod FindLaws

@@ -1,0 +1,47 @@
+-- What is found is answered.
+use native.Mathlib.Omega.{arith}
+use borrow.Author.Needs.{needs}
+use Rattle.locate.proofs.FindLaws.{none-wrong}
+use Rattle.locate.proofs.locate.Statement.{statement}
+use Rattle.locate.proofs.locate.Tie as tie
+
+places-space-requires : tie.Need-places-space-requires
+places-space-requires c κs = search needs
+
+first-nonzero-requires : tie.Need-first-nonzero-requires
+first-nonzero-requires c κs = search needs
+
+returns : tie.Need-returns
+returns c = record { tells = (omega arith, none-wrong (c .before .first-nonzero .ensures) (c .if1 .taken)) }
+
+space-requires : tie.Need-space-requires
+space-requires c κs = search needs
+
+slice-aggregate-find : tie.Need-slice-aggregate-find
+slice-aggregate-find c = search needs
+
+slice-aggregate-find-2 : tie.Need-slice-aggregate-find-2
+slice-aggregate-find-2 c = search needs
+
+find-requires : tie.Need-find-requires
+find-requires c κs = search needs
+
+returns-2 : tie.Need-returns-2
+returns-2 c = record { tells = c .before .before .before .find .ensures .none (c .if2 .taken) }
+
+returns-3 : tie.Need-returns-3
+returns-3 c = record { tells = (omega (arith, c .before .before .before .before .before .before .before .before .before .before .before .before .before .pre .1, c .if2 .left), c .before .before .before .find .ensures .some (c .if2 .left)) }
+
+pub locate-spec : {M : Type 1} → statement M
+locate-spec =
+    tie.close
+    (tie.spec
+    places-space-requires
+    first-nonzero-requires
+    returns
+    space-requires
+    slice-aggregate-find
+    slice-aggregate-find-2
+    find-requires
+    returns-2
+    returns-3)

@@ -1,0 +1,24 @@
+//! An independent second program, written from the rules of the code alone; what it prints is compared with the proved programs.
+
+mod codes;
+mod field;
+mod polynomials;
+mod sheet;
+mod trials;
+mod words;
+
+use std::io::Write;
+
+fn main() {
+    let subject = std::env::args().nth(1).unwrap_or_default();
+    let text = match subject.as_str() {
+        "trials" => trials::text(),
+        _ => {
+            eprintln!("usage: second trials");
+            std::process::exit(2);
+        }
+    };
+    std::io::stdout()
+        .write_all(text.as_bytes())
+        .expect("standard output takes the text");
+}
