@@ -77,7 +77,7 @@ mod tests {
     use super::listed;
 
     #[test]
-    fn as_many_codes_are_listed_as_document_01_says() {
+    fn as_many_codes_are_listed_as_the_rule_says() {
         let count = |m| (0..=600).filter(|t| listed(m, *t).is_some()).count();
         let counts: Vec<usize> = (3..=10).map(count).collect();
         assert_eq!(counts, [1, 3, 5, 11, 17, 33, 57, 105]);
