@@ -17,11 +17,6 @@ pub record Located (m t : ℕ) (sums places : List ℕ) : Type 0 where
   pub few : length places ≤ t
   pub same : (i : ℕ) → i < t → sumOver m (2 * i + 1) places ≡ getD sums i 0
 
--- found places are written down and are located, or found is above t and there is nothing to locate
-pub record Sought (m t : ℕ) (sums : List ℕ) (found : ℕ) (places : List ℕ) : Type 0 where
-  pub some : found ≤ t → Located m t sums (take found places)
-  pub none : t < found → (ps : List ℕ) → Located m t sums ps → ⊥
-
 -- what the search answers: the first so many of its places are located, or there is nothing to locate
 abbrev pub Tells : ℕ → ℕ → List ℕ → Found → List ℕ → Type 0
 Tells m t sums (Places count) places = (count ≤ 255) × Located m t sums (take count places)

@@ -9,6 +9,7 @@ use Rattle.field.specs.Sum.{_⊕_}
 use Rattle.field.specs.Product.{_⊗⟨_⟩_}
 use Rattle.field.specs.Power.{a, nOf, power}
 use Rattle.codes.specs.Sums.{sumOf, sumOver}
+use Rattle.locate.specs.Located.{Located}
 
 -- the first t entries are what f says of their places, and the others are as before
 pub record Filled (f : ℕ → ℕ) (t : ℕ) (before after : List ℕ) : Type 0 where
@@ -84,3 +85,8 @@ pub record Agrees (m t : ℕ) (places sums : List ℕ) (r : ℕ) : Type 0 where
   pub most : r ≤ t
   pub before : (i : ℕ) → i < r → sumOver m (2 * i + 1) places ≡ getD sums i 0
   pub here : r < t → sumOver m (2 * r + 1) places ≡ getD sums r 0 → ⊥
+
+-- found places are written down and are located, or found is above t and there is nothing to locate
+pub record Sought (m t : ℕ) (sums : List ℕ) (found : ℕ) (places : List ℕ) : Type 0 where
+  pub some : found ≤ t → Located m t sums (take found places)
+  pub none : t < found → (ps : List ℕ) → Located m t sums ps → ⊥

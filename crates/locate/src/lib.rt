@@ -5,8 +5,8 @@ ghost use Prim.Native.Nat.{ℕ, _+_, _-_, _*_, _^_, _≤_, _<_};
 ghost use lib.ListN.{length, getD, take, replicate};
 ghost use Rattle.bits.specs.Bits.{AreBits};
 ghost use Rattle.field.specs.Tables.{Tables};
-ghost use Rattle.locate.specs.Located.{Searched, Sought};
-ghost use Rattle.locate.specs.Work.{Filled, nothing, entry, plusPower, plusBit, wordSum, placeSum, plusMoved, Squared, crossed, valueFrom, NotedOne, Tried, Compared, Agrees};
+ghost use Rattle.locate.specs.Located.{Searched};
+ghost use Rattle.locate.specs.Work.{Filled, nothing, entry, plusPower, plusBit, wordSum, placeSum, plusMoved, Squared, crossed, valueFrom, NotedOne, Tried, Compared, Agrees, Sought};
 ghost use Rattle.locate.specs.Held.{Held, Stepped, Solved, SolvedFor};
 
 // How many places were found, or that no set of places has these sums.

@@ -1,0 +1,44 @@
+-- The answer's case gives its number.
+use borrow.Author.Needs.{needs}
+use mathlib.Core.Path.{_∙_, sym, ap}
+use Rattle.codec.specs.Encode.{encodedNumber}
+use borrow.Author.Needs.{needs}
+use Rattle.card.proofs.blentovar_encode.Statement.{statement}
+use Rattle.card.proofs.blentovar_encode.Tie as tie
+
+encode-requires : tie.Need-encode-requires
+encode-requires c κs = search needs
+
+enum-told : tie.Need-enum-told
+enum-told c = search needs
+
+enum-known-answer : tie.Need-enum-known-answer
+enum-known-answer c = search needs
+
+number-requires : tie.Need-number-requires
+number-requires c κs = search needs
+
+same-length : tie.Need-same-length
+same-length c = search needs
+
+returns : tie.Need-returns
+returns c = record { answer = c .before .before .before .before .encode .result; promised = c .before .before .before .before .encode .ensures; number = sym (ap encodedNumber (c .enum-told .given .1)) }
+
+same-length-2 : tie.Need-same-length-2
+same-length-2 c = search needs
+
+returns-2 : tie.Need-returns-2
+returns-2 c = record { answer = c .before .before .before .before .before .before .encode .result; promised = c .before .before .before .before .before .before .encode .ensures; number = c .number .ensures ∙ sym (ap encodedNumber (c .before .before .answer .given .1)) }
+
+pub blentovar-encode-spec : {M : Type 1} → statement M
+blentovar-encode-spec =
+    tie.close
+    (tie.spec
+    encode-requires
+    enum-told
+    enum-known-answer
+    number-requires
+    same-length
+    returns
+    same-length-2
+    returns-2)
