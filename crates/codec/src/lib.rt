@@ -1,4 +1,4 @@
-// The operations on whole words: Describe, Encode.
+// The operations on whole words: Describe, Encode, Decode.
 
 mod decoding;
 mod describing;
