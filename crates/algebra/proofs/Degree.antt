@@ -42,17 +42,8 @@ module _ (K : Ring) where
   pub below-refl : (r : ℕ) (p : Series K) → EqualBelow K r p p
   below-refl r p n h = refl
 
-  pub below-sym : (r : ℕ) (p q : Series K) → EqualBelow K r p q → EqualBelow K r q p
-  below-sym r p q e n h = sym (e n h)
-
-  pub below-trans : (r : ℕ) (p q u : Series K) → EqualBelow K r p q → EqualBelow K r q u → EqualBelow K r p u
-  below-trans r p q u e f n h = e n h ∙ f n h
-
   pub below-weaken : (r s : ℕ) (p q : Series K) → r ≤ s → EqualBelow K s p q → EqualBelow K r p q
   below-weaken r s p q l e n h = e n (omega arith)
-
-  pub below-sum : (r : ℕ) (p q u v : Series K) → EqualBelow K r p q → EqualBelow K r u v → EqualBelow K r (p ⊕ˢ u) (q ⊕ˢ v)
-  below-sum r p q u v e f n h = ap₂ _⊕_ (e n h) (f n h)
 
   pub below-shift : (r : ℕ) (p q : Series K) → EqualBelow K r p q → EqualBelow K (suc r) (shift K p) (shift K q)
   below-shift r p q e zero h = shift-zero K p ∙ sym (shift-zero K q)

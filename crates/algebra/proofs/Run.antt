@@ -280,9 +280,6 @@ module _ (F : Field) (S : Series (F .ring)) where
   pub run-degree : (r : ℕ) → ZeroFrom K (suc (run F S r .L)) (run F S r .σ)
   run-degree r = run-keeps r .linked .σ-from
 
-  pub run-one : (r : ℕ) → run F S r .σ zero ≡ 𝟙
-  run-one r = run-keeps r .linked .σ-one
-
   pub run-length : (r : ℕ) → run F S r .L ≤ r
   run-length r = run-keeps r .short
 

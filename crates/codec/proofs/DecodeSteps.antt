@@ -67,9 +67,6 @@ finds-nothing f = record { mended = λ z. absurd (refusal-not NothingNear z); fa
 pub finds-mended : {m t count : ℕ} {received word list : List ℕ} → Mends m t received word list count → Finds m t received (Mended count) word list
 finds-mended w = record { mended = λ z. w; far = λ n. absurd (n refl) }
 
-pub kept-same : (answer : Decoded) (word list : List ℕ) → Kept answer word list word list
-kept-same answer word list n = (refl, refl)
-
 pub kept-mended : (count : ℕ) {lentWord lentList word list : List ℕ} → Kept (Mended count) lentWord lentList word list
 kept-mended count n = absurd (n refl)
 

@@ -142,10 +142,6 @@ residue-lead m t r l h = (to, from)
 pub lead-at-most : (m r : ℕ) → 1 ≤ m → 1 ≤ r → r < nOf m → lead m r ≤ r
 lead-at-most m r l p h = lead-least m r 0 r l p (still (nOf m) r h)
 
-pub zero-no-residue : (m t : ℕ) → 1 ≤ m → 2 * t < nOf m → Residue (nOf m) t 0 → ⊥
-unfolding lead
-zero-no-residue m t l h w = omega (arith, residue-lead m t 0 l (n-positive m l) .0 w)
-
 pub all-residues : (m t r : ℕ) → 1 ≤ m → nOf m ≤ 2 * t → r < nOf m → Residue (nOf m) t r
 unfolding lead
 all-residues m t zero l k h = residue-lead m t zero l h .1 k

@@ -14,7 +14,7 @@ use Rattle.sheet.specs.Number.{numberOf}
 use Rattle.codes.specs.declared.Look.{Look}
 use Rattle.codes.specs.declared.Look.the-variants.{Row, Refused}
 use Rattle.codes.specs.Table.{ks, ts, first, firsts, RowOf, ListedCode}
-use Rattle.codes.specs.Look.{isField, rowFrom, rowOf, isListed, kOf, lookOf, codeRefusal, Accepted}
+use Rattle.codes.specs.Look.{rowFrom, rowOf, isListed, kOf, lookOf, codeRefusal, Accepted}
 use Rattle.codes.proofs.Rows.{row-unique, row-facts}
 
 pub rowFrom-none : (r t : ℕ) → rowFrom 0 r t ≡ r
@@ -145,10 +145,6 @@ listed-row {m} {k} {t} c =
 
 pub listed-k : {m k t : ℕ} → ListedCode m k t → kOf m t ≡ k
 listed-k {m} {k} {t} c = kOf-row m t ∙ ap (λ (r : ℕ). getD ks r 0) (listed-row c) ∙ c .is-k
-
--- the tests of an operation's first two checks
-pub field-test : (m : ℕ) → Listed m → isField m ≡ true
-field-test m L = rw (le-leb 3 m (L .least), le-leb m 10 (L .most))
 
 pub listed-test : {m k t : ℕ} → ListedCode m k t → isListed m t ≡ true
 unfolding isListed

@@ -3,7 +3,7 @@ use mathlib.Core.Path.{_≡_, _∙_, sym, ap, ap₂, subst}
 use mathlib.Core.Bool.{Bool, true, false}
 use mathlib.Core.List.{List, [], _∷_}
 use Prim.Native.Nat.{ℕ, zero, suc, _+_, _-_, _*_, _/_, _%_, _^_, _≤_, _<_}
-use native.Mathlib.Nat.{not-suc-le-zero, mul-one, le-trans, pow-suc, div-one}
+use native.Mathlib.Nat.{not-suc-le-zero, mul-one, le-trans, pow-suc}
 use native.Mathlib.Omega.{arith}
 use lib.Dec.{T, eqb, leb, ltb, eqb→eq, leb→le, ltb→lt}
 use lib.ListN.{getD, drop}
@@ -25,7 +25,7 @@ use Rattle.codes.specs.Generator.{binary, minimalOf}
 use Rattle.codes.proofs.Degrees.{HasDegree}
 use Rattle.codes.proofs.Rows.{row-facts}
 use Rattle.codes.proofs.SumLaws.{sumOf-nil, sum-cons}
-use Rattle.codes.proofs.Binary.{binary-zero, binary-suc, binary-bits, binary-at, binary-top, binary-above}
+use Rattle.codes.proofs.Binary.{binary-zero, binary-suc, binary-bits, binary-top, binary-above}
 
 -- the number p as a polynomial, evaluated at z
 abbrev value : ℕ → ℕ → ℕ → ℕ
@@ -159,9 +159,3 @@ minimal-degree {m} {r} w =
     let p : ℕ = getD minimals r 0 in
     let d : ℕ = before-k m r - getD ks r 0 in
     record { top = binary-top 11 p d (R .least) (R .most) (degree-below w); above = binary-above 11 p d (R .most) }
-
-pub minimal-first-place : {m r : ℕ} → RowOf m r → getD (minimalOf r) 0 0 ≡ 1
-unfolding minimalOf
-minimal-first-place {m} {r} w =
-    let p : ℕ = getD minimals r 0 in
-    binary-at 11 p 0 (omega arith) ∙ ap (λ x. x % 2) (div-one p) ∙ right-minimal-at w .odd

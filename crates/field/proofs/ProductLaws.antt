@@ -28,10 +28,6 @@ shifted-additive m p =
 
 -- the polynomial product
 
-pub carryless-one : (x : ℕ) → carryless x 1 ≡ x
-unfolding carryless
-carryless-one = horner-one double-additive
-
 pub one-carryless : (x : ℕ) → carryless 1 x ≡ x
 unfolding carryless
 one-carryless =
@@ -125,11 +121,6 @@ module _ (m p : ℕ) where
 
   pub shifted-below : (z : ℕ) → 2 * z < 2 ^ m → shifted m p z ≡ 2 * z
   shifted-below z h = simp (shifted-clause, div-eq-of-lt h, zero-mul, sum-zero)
-
-  pub shifted-above : (z : ℕ) → z < 2 ^ m → 2 ^ m ≤ 2 * z → shifted m p z ≡ 2 * z ⊕ p
-  shifted-above z h l =
-      let d : 2 * z / 2 ^ m ≡ 1 = div-eq-of-lt-le (2 ^ m) (omega arith) (omega arith) in
-      simp (shifted-clause, d, one-mul)
 
   -- below 2 ^ m nothing is taken away
   pub remainder-below : (x : ℕ) → x < 2 ^ m → remainder m p x ≡ x
@@ -251,14 +242,6 @@ module _ {m : ℕ} (L : Listed m) where
 
   pub product-left-comm : (x y z : ℕ) → x ⊗⟨ m ⟩ (y ⊗⟨ m ⟩ z) ≡ y ⊗⟨ m ⟩ (x ⊗⟨ m ⟩ z)
   product-left-comm x y z = sym (product-assoc x y z) ∙ ap (λ s. s ⊗⟨ m ⟩ z) (product-comm m x y) ∙ product-assoc y x z
-
-  -- by the digits of y: a step of the loop that multiplies
-  pub product-digits : (x y : ℕ) → x < 2 ^ m → x ⊗⟨ m ⟩ y ≡ (y % 2 * x) ⊕ shifted m (polynomial m) (x ⊗⟨ m ⟩ (y / 2))
-  product-digits x y h =
-      let e : remainder m (polynomial m) x ≡ x = remainder-below m (polynomial m) x h in
-      product-horner m x y
-      ∙ horner-digits (shifted m (polynomial m)) (shifted-additive m (polynomial m) .at-zero) (remainder m (polynomial m) x) y
-      ∙ ap₂ (λ s t. (y % 2 * s) ⊕ shifted m (polynomial m) t) e (sym (product-horner m x (y / 2)))
 
   pub product-one : (x : ℕ) → x < 2 ^ m → x ⊗⟨ m ⟩ 1 ≡ x
   product-one x h = product-horner m x 1 ∙ horner-one (shifted-additive m (polynomial m)) _ ∙ remainder-below m (polynomial m) x h

@@ -38,9 +38,6 @@ pub sum-lowest : (x y : ℕ) → (x ⊕ y) % 2 ≡ x % 2 ⊕ y % 2
 unfolding _⊕_
 sum-lowest x y = xor-mod x y 1
 
-pub sum-digit : (x y k : ℕ) → (x ⊕ y) / 2 ^ k % 2 ≡ x / 2 ^ k % 2 ⊕ y / 2 ^ k % 2
-sum-digit x y k = ap (λ z. z % 2) (sum-above x y k) ∙ sum-lowest (x / 2 ^ k) (y / 2 ^ k)
-
 -- two numbers are equal if their halves and their lowest digits are
 pub same-digits : {x y : ℕ} → x / 2 ≡ y / 2 → x % 2 ≡ y % 2 → x ≡ y
 same-digits h l = omega arith
