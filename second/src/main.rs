@@ -1,9 +1,14 @@
 //! An independent second program, written from the rules of the code alone; what it prints is compared with the proved programs.
 
 mod codes;
+mod euclid;
 mod field;
+mod made_up;
+mod mending;
+mod nearest;
 mod polynomials;
 mod sheet;
+mod tables;
 mod trials;
 mod words;
 
@@ -12,9 +17,10 @@ use std::io::Write;
 fn main() {
     let subject = std::env::args().nth(1).unwrap_or_default();
     let text = match subject.as_str() {
+        "mending" => mending::text(),
         "trials" => trials::text(),
         _ => {
-            eprintln!("usage: second trials");
+            eprintln!("usage: second mending|trials");
             std::process::exit(2);
         }
     };

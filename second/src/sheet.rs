@@ -33,3 +33,24 @@ pub fn encode(m: u64, t: u64, message: &[u8], word_places: usize) -> Result<Code
     }
     Ok(code)
 }
+
+/// Decode's order is 1, 2, 3, 4, 5; 6 is the decoder's.
+pub fn decode(
+    m: u64,
+    t: u64,
+    received: &[u8],
+    word_places: usize,
+    list_places: usize,
+) -> Result<Code, u32> {
+    let code = code_or_refusal(m, t)?;
+    if received.len() != code.n {
+        return Err(3);
+    }
+    if word_places != code.n || list_places != code.t {
+        return Err(4);
+    }
+    if received.iter().any(|bit| *bit > 1) {
+        return Err(5);
+    }
+    Ok(code)
+}

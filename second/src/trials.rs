@@ -1,6 +1,7 @@
 //! What crates/trials is to write: every listed code with its generator and a word, then the refusals of Describe and Encode.
 
 use crate::codes::{listed, Code};
+use crate::made_up::MadeUp;
 use crate::{sheet, words};
 
 const LARGEST: u64 = u64::MAX;
@@ -119,19 +120,9 @@ fn code_lines() -> Vec<String> {
 fn code_line(m: u64, code: &Code) -> String {
     let (t, n, k) = (code.t, code.n, code.k);
     let generator = code.generator();
-    let message = made_up_bits(m * 1000 + t as u64, k);
+    let message = MadeUp::new(m * 1000 + t as u64).bits(k);
     let word = words::encode(code, &generator, &message);
     format!("{m} {t} {n} {k} {} {}", digits(&generator), digits(&word))
-}
-
-/// So many bits of the linear generator that starts at the given state.
-fn made_up_bits(start: u64, count: usize) -> Vec<u8> {
-    let mut state = start;
-    let next = |_| {
-        state = (state * 1103515245 + 12345) % (1 << 31);
-        (state / 65536 % 2) as u8
-    };
-    (0..count).map(next).collect()
 }
 
 fn digits(bits: &[u8]) -> String {

@@ -15,12 +15,18 @@ pub fn is_code_word(code: &Code, word: &[u8]) -> bool {
 }
 
 /// The remainder of x^(n-k) times the message by the generator, then the message.
-pub fn encode(code: &Code, generator: &[u8], message: &[u8]) -> Vec<u8> {
+pub fn with_parity(code: &Code, generator: &[u8], message: &[u8]) -> Vec<u8> {
     let parity_places = code.n - code.k;
     let mut word = vec![0; parity_places];
     word.extend(message);
     let (_, parity) = divide(&word, generator);
     word[..parity.len()].copy_from_slice(&parity);
+    word
+}
+
+/// The same, with the sums of the word looked at, which takes long in a large field.
+pub fn encode(code: &Code, generator: &[u8], message: &[u8]) -> Vec<u8> {
+    let word = with_parity(code, generator, message);
     assert!(is_code_word(code, &word), "encoding gives a code word");
     word
 }

@@ -1,0 +1,143 @@
+// What a line says of many decoded words. The sum depends on every answer and on every place of both buffers after it.
+
+ghost use Prim.Native.Nat.{_≤_};
+ghost use lib.ListN.{length};
+use crate::room;
+use crate::text::print_number;
+use codec::Decoded;
+use sheet::Refusal;
+
+// The state is that of the generator that made the words.
+pub(crate) struct Tally {
+    pub state: u64,
+    pub mended: u64,
+    pub refused: u64,
+    pub wrong: u64,
+    pub sum: u64,
+}
+
+pub(crate) fn nothing_yet(state: u64) -> Tally {
+    Tally {
+        state,
+        mended: 0,
+        refused: 0,
+        wrong: 0,
+        sum: 0,
+    }
+}
+
+pub(crate) fn with_state(tally: Tally, state: u64) -> Tally {
+    Tally {
+        state,
+        mended: tally.mended,
+        refused: tally.refused,
+        wrong: tally.wrong,
+        sum: tally.sum,
+    }
+}
+
+// No count comes near a million; the remainders are there so that nothing can run over.
+fn plus(x: u64, y: u64) -> u64 {
+    (x % 1000000 + y % 1000000) % 1000000
+}
+
+fn mix(sum: u64, x: u64) -> u64 {
+    (sum % 65521 * 31 + x % 65536) % 65521
+}
+
+fn mix_bit(sum: u64, bit: u8) -> u64 {
+    mix(sum, bit as u64)
+}
+
+fn mix_place(sum: u64, place: u16) -> u64 {
+    mix(sum, place as u64)
+}
+
+fn mix_word(start: u64, word: &[u8]) -> u64 {
+    let mut sum = start;
+    let mut i = 0;
+    while i < word.len() {
+        sum = mix_bit(sum, word[i]);
+        i += 1;
+    }
+    sum
+}
+
+fn mix_list(start: u64, list: &[u16]) -> u64 {
+    let mut sum = start;
+    let mut i = 0;
+    while i < list.len() {
+        sum = mix_place(sum, list[i]);
+        i += 1;
+    }
+    sum
+}
+
+fn with_mended(tally: Tally, count: usize) -> Tally {
+    let wrong = count as u64;
+    Tally {
+        state: tally.state,
+        mended: plus(tally.mended, 1),
+        refused: tally.refused,
+        wrong: plus(tally.wrong, wrong),
+        sum: mix(mix(tally.sum, 0), wrong),
+    }
+}
+
+fn with_refused(tally: Tally, r: Refusal) -> Tally {
+    let number = sheet::number(r) as u64;
+    Tally {
+        state: tally.state,
+        mended: tally.mended,
+        refused: plus(tally.refused, 1),
+        wrong: tally.wrong,
+        sum: mix(mix(tally.sum, number), 0),
+    }
+}
+
+fn with_answer(tally: Tally, answer: Decoded) -> Tally {
+    match answer {
+        Decoded::Mended(count) => with_mended(tally, count),
+        Decoded::Refused(r) => with_refused(tally, r),
+    }
+}
+
+fn with_buffers(tally: Tally, word: &[u8], list: &[u16]) -> Tally {
+    let sum = mix_list(mix_word(tally.sum, word), list);
+    Tally {
+        state: tally.state,
+        mended: tally.mended,
+        refused: tally.refused,
+        wrong: tally.wrong,
+        sum,
+    }
+}
+
+fn decode_into(
+    m: usize,
+    t: usize,
+    received: &[u8],
+    word: &mut [u8],
+    list: &mut [u16],
+    tally: Tally,
+) -> Tally {
+    let answer = codec::decode(m, t, received, word, list);
+    let answered = with_answer(tally, answer);
+    with_buffers(answered, word, list)
+}
+
+// One more word decoded.
+pub(crate) fn decode(m: usize, t: usize, received: &[u8], tally: Tally) -> Tally
+    requires { ⌜ (length (now received) ≤ 1023) × (t ≤ 256) ⌝ }
+{
+    let n = received.len();
+    let mut word = room::word_of_sevens();
+    let mut list = room::list_of_junk();
+    decode_into(m, t, received, &mut word[..n], &mut list[..t], tally)
+}
+
+pub(crate) fn print_all_but_mended(tally: Tally) {
+    print_number(tally.refused);
+    print_number(tally.wrong);
+    print_number(tally.sum);
+}
