@@ -28,10 +28,10 @@ use Rattle.field.proofs.Field.{field, ringOf, el-path, power-number}
 use Rattle.codes.specs.Sums.{sumOver}
 use Rattle.codes.proofs.SumLaws.{sumOver-nil, sumOver-cons, sumOver-square}
 use Rattle.locate.specs.Located.{Located}
-use Rattle.locate.specs.Work.{Squared, valueFrom, zeros, Tried, Compared, Agrees}
+use Rattle.locate.specs.Work.{Squared, valueFrom, tried, zeros, Tried, Compared, Agrees}
 use Rattle.locate.specs.Held.{seriesOf, stateAt, SolvedFor}
 use Rattle.locate.proofs.RunLaws.{series-at}
-use Rattle.locate.proofs.TrialLaws.{value-zero, value-suc, tried, zeros-member, member-zeros, zeros-ascending}
+use Rattle.locate.proofs.TrialLaws.{value-zero, value-suc, zeros-member, member-zeros, zeros-ascending}
 
 -- two rows that agree at the even places, and whose odd places are squares of the places half as far, agree
 

@@ -1,4 +1,5 @@
 pub mod FillLaws
+pub mod WalkLaws
 pub mod SumSteps
 pub mod MendLaws
 pub mod TrialLaws

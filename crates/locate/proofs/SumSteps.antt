@@ -1,11 +1,10 @@
 -- Adding places into sums: one power after the other, one place after the other.
 use mathlib.Core.Path.{_≡_, _∙_, refl, sym, ap, ap₂}
 use mathlib.Core.List.{List, [], _∷_, _++_}
-use Prim.Native.Nat.{ℕ, _+_, _*_, _^_, _≤_, _<_}
+use Prim.Native.Nat.{ℕ, _+_, _*_, _%_, _^_, _≤_, _<_}
 use native.Mathlib.Numerals.{add-one}
 use native.Mathlib.Nat.{zero-mul, one-mul}
 use native.Mathlib.Omega.{arith}
-use lib.Bits.{bitXor}
 use lib.ListN.{length, getD, take, set, length-set}
 use lib.Seq.{take-suc, length-take-le, take-all, getD-set-same, getD-set-other}
 use borrow.Author.Count.{below-more}
@@ -14,44 +13,21 @@ use Rattle.bits.specs.Bits.{AreBits}
 use Rattle.bits.proofs.BitLaws.{bit-cases, bits-cons, bits-replicate, bits-take}
 use Rattle.field.specs.Sum.{_⊕_}
 use Rattle.field.specs.Product.{Listed, _⊗⟨_⟩_}
-use Rattle.field.specs.Power.{a, power}
+use Rattle.field.specs.Power.{a, nOf, power}
 use Rattle.field.proofs.SumLaws.{sum-zero, zero-sum, sum-assoc}
 use Rattle.field.proofs.ProductLaws.{product-one, product-zero, product-bound}
-use Rattle.field.proofs.PowerLaws.{power-zero, power-suc, power-one, power-add, power-mul, power-bound}
+use Rattle.field.proofs.PowerLaws.{power-add, power-mul, power-bound}
+use Rattle.field.proofs.Order.{eight-bound}
 use Rattle.codes.specs.Sums.{sumOf, sumOver}
 use Rattle.codes.proofs.SumLaws.{sum-cons, sum-append, sumOver-nil, sumOver-cons, sum-none}
 use Rattle.locate.specs.Work.{Filled, plusPower, plusBit, nothing, wordSum, placeSum, Squared}
-use Rattle.locate.proofs.FillLaws.{xor-sum, fill-start, fill-next, fill-from, fill-as, fill-after}
-
--- y is x^(2j+1), and the powers before it are added
-pub record Adding (m x t square : ℕ) (before after : List ℕ) (y j : ℕ) : Type 0 where
-  pub within : j ≤ t
-  pub here : y ≡ power m x (2 * j + 1)
-  pub filled : Filled (plusPower m x before) j before after
+use Rattle.locate.proofs.FillLaws.{fill-from, fill-as, fill-after}
+use Rattle.locate.proofs.WalkLaws.{around-below, around-power}
 
 bits-one : (b : ℕ) → b ≤ 1 → AreBits (b ∷ [])
 bits-one b h = bits-cons h (bits-replicate 0)
 
 module _ {m : ℕ} (L : Listed m) where
-  pub add-start : (x t square : ℕ) (before : List ℕ) → x < 2 ^ m → Adding m x t square before before x 0
-  add-start x t square before h =
-      record { within = omega arith; here = sym (power-one L x h); filled = fill-start _ before }
-
-  power-two : (x : ℕ) → x < 2 ^ m → power m x 2 ≡ x ⊗⟨ m ⟩ x
-  power-two x h = power-suc m x 1 ∙ ap (λ z. x ⊗⟨ m ⟩ z) (power-one L x h)
-
-  pub add-next : {x t square y j z : ℕ} {before after : List ℕ} → Adding m x t square before after y j → x < 2 ^ m → square ≡ x ⊗⟨ m ⟩ x → t ≤ length before → j < t → z ≡ y ⊗⟨ m ⟩ square
-      → Adding m x t square before (set after j (bitXor (getD after j 0) y)) z (j + 1)
-  add-next {x} {t} {square} {y} {j} {z} {before} {after} s h q l k e =
-      record {
-        within = omega arith;
-        here = e ∙ ap₂ (λ u v. u ⊗⟨ m ⟩ v) (s .here) (q ∙ sym (power-two x h)) ∙ sym (power-add L x (2 * j + 1) 2) ∙ ap (power m x) two;
-        filled = fill-next (s .filled) (omega arith) (xor-sum (getD after j 0) y ∙ ap₂ (λ u v. u ⊕ v) (s .filled .rest j (omega arith)) (s .here));
-      }
-    where
-      two : 2 * j + 1 + 2 ≡ 2 * (j + 1) + 1
-      two = omega arith
-
   -- one bit of a word
 
   pub bit-added : {b t : ℕ} {before after : List ℕ} (x : ℕ) → b ≡ 1 → Filled (plusPower m x before) t before after → Filled (plusBit m b x before) t before after
@@ -80,32 +56,35 @@ module _ {m : ℕ} (L : Listed m) where
       ∙ ap₂ (λ y z. sumOf m j (take i word) ⊕ y ⊗⟨ m ⟩ z) (ap (λ n. power m a (n * j)) (length-take-le i word (omega arith)) ∙ power-mul L a i j) (sum-bit j d (b .at i))
       ∙ ap (λ z. sumOf m j (take i word) ⊕ z) (bit-product d (power m (power m a i) j) (b .at i) (power-bound L _ j))
 
--- the bits before place i are worked in, and x is a^i
-pub record Summing (m t : ℕ) (word before after : List ℕ) (x i : ℕ) : Type 0 where
+-- the bits before place i are worked in, and p is i on the ring of n places
+pub record Summing (m t : ℕ) (word before after : List ℕ) (p i : ℕ) : Type 0 where
   pub within : i ≤ length word
-  pub here : x ≡ power m a i
+  pub below : p < nOf m
+  pub here : power m a p ≡ power m a i
   pub filled : Filled (wordSum m (take i word)) t before after
 
-pub summing-start : {m t : ℕ} {first before : List ℕ} (word : List ℕ) → Filled nothing t first before → Summing m t word before before 1 0
-summing-start {m} {t} {before = before} word s =
+pub summing-start : {m t : ℕ} {first before : List ℕ} (word : List ℕ) → Listed m → Filled nothing t first before → Summing m t word before before 0 0
+summing-start {m} {t} {before = before} word L s =
     record {
       within = omega arith;
-      here = sym (power-zero m a);
+      below = omega (arith, eight-bound L);
+      here = refl;
       filled = fill-from _ t before (λ i h. s .holds i h ∙ sym (sum-none m (2 * i + 1) [] (λ k. refl)));
     }
 
-pub summing-next : {m t x i y : ℕ} {word before middle after : List ℕ} → Listed m → AreBits word → Summing m t word before middle x i → i < length word
-    → Filled (plusBit m (getD word i 0) x middle) t middle after → y ≡ a ⊗⟨ m ⟩ x → Summing m t word before after y (i + 1)
-summing-next {m} {t} {x} {i} {y} {word} {before} {middle} L b s h u e =
+pub summing-next : {m t n p i r : ℕ} {word before middle after : List ℕ} → Listed m → AreBits word → Summing m t word before middle p i → n ≡ nOf m → i < length word
+    → Filled (plusBit m (getD word i 0) (power m a p) middle) t middle after → r ≡ (p + 1) % n → Summing m t word before after r (i + 1)
+summing-next {m} {t} {n} {p} {i} {r} {word} {before} {middle} L b s is h u e =
     record {
       within = omega arith;
-      here = e ∙ ap (λ (z : ℕ). a ⊗⟨ m ⟩ z) (s .here) ∙ sym (power-suc m a i) ∙ ap (power m a) (sym (add-one i));
+      below = around-below L (p + 1) is e;
+      here = around-power L (p + 1) is e ∙ power-add L a p 1 ∙ ap (λ (z : ℕ). z ⊗⟨ m ⟩ power m a 1) (s .here) ∙ sym (power-add L a i 1);
       filled = fill-after (s .filled) (fill-as u (λ j k.
           ap₂ (λ y z. y ⊕ getD word i 0 * power m z (2 * j + 1)) (s .filled .holds j k) (s .here)
           ∙ sym (sum-more L (2 * j + 1) i word b h)));
     }
 
-pub summing-done : {m t x i : ℕ} {word first before after : List ℕ} → Filled nothing t first before → Summing m t word before after x i → length word ≤ i → Filled (wordSum m word) t first after
+pub summing-done : {m t p i : ℕ} {word first before after : List ℕ} → Filled nothing t first before → Summing m t word before after p i → length word ≤ i → Filled (wordSum m word) t first after
 summing-done {m} {i = i} {word} c s h = fill-after c (fill-as (s .filled) (λ j k. ap (sumOf m (2 * j + 1)) (take-all i word h)))
 
 -- the sums of a list of places

@@ -23,6 +23,10 @@ nothing i = 0
 abbrev pub entry : List ℕ → ℕ → ℕ
 entry xs i = getD xs i 0
 
+-- a^(from + step i) is added
+abbrev pub plusWalk : ℕ → ℕ → ℕ → List ℕ → ℕ → ℕ
+plusWalk m from step before i = getD before i 0 ⊕ power m a (from + step * i)
+
 -- x^(2i+1) is added
 abbrev pub plusPower : ℕ → ℕ → List ℕ → ℕ → ℕ
 plusPower m x before i = getD before i 0 ⊕ power m x (2 * i + 1)
@@ -57,11 +61,18 @@ unfoldable pub valueFrom : ℕ → ℕ → List ℕ → ℕ → ℕ → ℕ
 valueFrom m y sigma k zero = 0
 valueFrom m y sigma k (suc c) = getD sigma k 0 ⊕ y ⊗⟨ m ⟩ valueFrom m y sigma (suc k) c
 
--- the places below i at which sigma is tried and is zero, ascending: place i is tried at a^(n-i)
+-- place i is tried at a^(n-i), with the first c coefficients
+abbrev pub tried : ℕ → List ℕ → ℕ → ℕ → ℕ
+tried m sigma c i = valueFrom m (power m a (nOf m - i)) sigma 0 c
+
+-- the term with coefficient s at place j is added, where place i is tried
+abbrev pub plusTerm : ℕ → ℕ → ℕ → List ℕ → ℕ → ℕ
+plusTerm m s j before i = getD before i 0 ⊕ power m (power m a (nOf m - i)) j ⊗⟨ m ⟩ s
+
+-- the places below i whose trial is zero, ascending
 unfoldable pub zeros : ℕ → List ℕ → ℕ → ℕ → List ℕ
 zeros m sigma c zero = []
-zeros m sigma c (suc i) =
-    cond (eqb (valueFrom m (power m a (nOf m - i)) sigma 0 c) 0) (zeros m sigma c i ++ (i ∷ [])) (zeros m sigma c i)
+zeros m sigma c (suc i) = cond (eqb (tried m sigma c i) 0) (zeros m sigma c i ++ (i ∷ [])) (zeros m sigma c i)
 
 -- place i is one more of those found if v is 0, and is written down where there is room for t
 pub record NotedOne (v i t found : ℕ) (before : List ℕ) (count : ℕ) (after : List ℕ) : Type 0 where

@@ -1,12 +1,14 @@
 // From the sums of a word to its wrong places.
 
 ghost use mathlib.Core.Path.{_≡_};
-ghost use Prim.Native.Nat.{ℕ, _+_, _-_, _*_, _^_, _≤_, _<_};
+ghost use Prim.Native.Nat.{ℕ, _+_, _-_, _*_, _%_, _^_, _≤_, _<_};
 ghost use lib.ListN.{length, getD, take, replicate};
 ghost use Rattle.bits.specs.Bits.{AreBits};
-ghost use Rattle.field.specs.Tables.{Tables};
+ghost use Rattle.field.specs.Product.{Listed};
+ghost use Rattle.field.specs.Power.{a, nOf, power};
+ghost use Rattle.field.specs.Tables.{Powers, Tables};
 ghost use Rattle.locate.specs.Located.{Searched};
-ghost use Rattle.locate.specs.Work.{Filled, nothing, entry, plusPower, plusBit, wordSum, placeSum, plusMoved, Squared, crossed, valueFrom, NotedOne, Tried, Compared, Agrees, Sought};
+ghost use Rattle.locate.specs.Work.{Filled, nothing, entry, plusWalk, plusPower, plusBit, wordSum, placeSum, plusMoved, Squared, crossed, plusTerm, tried, NotedOne, Tried, Compared, Agrees, Sought};
 ghost use Rattle.locate.specs.Held.{Held, Stepped, Solved, SolvedFor};
 
 // How many places were found, or that no set of places has these sums.
@@ -22,20 +24,41 @@ pub struct Search {
 
 // The sums
 
-// To the first t entries x, x^3, x^5, .. is added.
-pub fn add_place(m: usize, powers: &[u16], logs: &[u16], x: u16, t: usize, sums: &mut [u16])
-    requires { ⌜ (Tables m (now powers) (now logs)) × (x < 2 ^ m) × (t ≤ length (now sums)) ⌝ }
-    ensures { λ _. ⌜ Filled (plusPower m x (now (sums .entry))) t (now (sums .entry)) (now (sums .exit)) ⌝ }
+// The place that e, which is below 2n, comes to on a ring of n places.
+fn around(n: usize, e: usize) -> usize
+    requires { ⌜ e < 2 * n ⌝ }
+    ensures { λ r. ⌜ r ≡ e % n ⌝ }
 {
-    let square = field::product(m, powers, logs, x, x);
-    let mut y = x;
+    if e < n {
+        return e;
+    }
+    e - n
+}
+
+// To the first `count` entries the powers of a are added whose exponents go from `from` on by `step`. The exponents are kept below n, so that each power is one look into the table.
+fn add_walk(m: usize, powers: &[u16], from: usize, step: usize, count: usize, sums: &mut [u16])
+    requires { ⌜ (Listed m) × (Powers m (now powers)) × (from < nOf m) × (step ≤ nOf m) × (count ≤ length (now sums)) ⌝ }
+    ensures { λ _. ⌜ Filled (plusWalk m from step (now (sums .entry))) count (now (sums .entry)) (now (sums .exit)) ⌝ }
+{
+    let n = field::n_of(m);
+    let mut e = from;
     let mut j = 0;
-    while j < t {
+    while j < count {
         let s = sums[j];
-        sums[j] = s ^ y;
-        y = field::product(m, powers, logs, y, square);
+        sums[j] = s ^ powers[e];
+        e = around(n, e + step);
         j += 1;
     }
+}
+
+// To the first t entries x, x^3, x^5, .. is added, x = a^p.
+fn add_place(m: usize, powers: &[u16], p: usize, t: usize, sums: &mut [u16])
+    requires { ⌜ (Listed m) × (Powers m (now powers)) × (p < nOf m) × (t ≤ length (now sums)) ⌝ }
+    ensures { λ _. ⌜ Filled (plusPower m (power m a p) (now (sums .entry))) t (now (sums .entry)) (now (sums .exit)) ⌝ }
+{
+    let n = field::n_of(m);
+    let step = around(n, 2 * p);
+    add_walk(m, powers, p, step, t, sums);
 }
 
 // The first t entries become 0.
@@ -50,13 +73,13 @@ fn clear_first(t: usize, sums: &mut [u16])
     }
 }
 
-// The sums of a word's bit b at the place whose power of a is x.
-fn add_bit(m: usize, powers: &[u16], logs: &[u16], b: u8, x: u16, t: usize, sums: &mut [u16])
-    requires { ⌜ (Tables m (now powers) (now logs)) × (x < 2 ^ m) × (t ≤ length (now sums)) × (b ≤ 1) ⌝ }
-    ensures { λ _. ⌜ Filled (plusBit m b x (now (sums .entry))) t (now (sums .entry)) (now (sums .exit)) ⌝ }
+// The sums of a word's bit b at place p.
+fn add_bit(m: usize, powers: &[u16], b: u8, p: usize, t: usize, sums: &mut [u16])
+    requires { ⌜ (Listed m) × (Powers m (now powers)) × (p < nOf m) × (t ≤ length (now sums)) × (b ≤ 1) ⌝ }
+    ensures { λ _. ⌜ Filled (plusBit m b (power m a p) (now (sums .entry))) t (now (sums .entry)) (now (sums .exit)) ⌝ }
 {
     if b == 1 {
-        add_place(m, powers, logs, x, t, sums);
+        add_place(m, powers, p, t, sums);
     }
 }
 
@@ -66,36 +89,29 @@ pub fn word_sums(m: usize, powers: &[u16], logs: &[u16], t: usize, word: &[u8], 
     ensures { λ _. ⌜ Filled (wordSum m (now (word .entry))) t (now (sums .entry)) (now (sums .exit)) ⌝ }
 {
     clear_first(t, sums);
-    let p = field::polynomial(m);
-    let mut x = 1;
+    let n = field::n_of(m);
+    let mut p = 0;
     let mut i = 0;
     while i < word.len() {
         let b = word[i];
-        add_bit(m, powers, logs, b, x, t, sums);
-        x = field::times_a(m, p, x);
+        add_bit(m, powers, b, p, t, sums);
+        p = around(n, p + 1);
         i += 1;
     }
 }
 
 // The first t entries become the odd sums of the first `count` places of the list.
-fn place_sums(
-    m: usize,
-    powers: &[u16],
-    logs: &[u16],
-    t: usize,
-    places: &[u16],
-    count: usize,
-    sums: &mut [u16],
-)
-    requires { ⌜ (Tables m (now powers) (now logs)) × (count ≤ length (now places)) × (t ≤ length (now sums)) ⌝ }
+fn place_sums(m: usize, powers: &[u16], t: usize, places: &[u16], count: usize, sums: &mut [u16])
+    requires { ⌜ (Listed m) × (Powers m (now powers)) × (count ≤ length (now places)) × (t ≤ length (now sums)) ⌝ }
     ensures { λ _. ⌜ Filled (placeSum m (take count (now (places .entry)))) t (now (sums .entry)) (now (sums .exit)) ⌝ }
 {
     clear_first(t, sums);
+    let n = field::n_of(m);
     let mut i = 0;
     while i < count {
-        let p = places[i] as usize;
-        let x = field::power(m, powers, logs, 2, p);
-        add_place(m, powers, logs, x, t, sums);
+        let place = places[i] as usize;
+        let p = place % n;
+        add_place(m, powers, p, t, sums);
         i += 1;
     }
 }
@@ -305,19 +321,47 @@ fn solve(m: usize, powers: &[u16], logs: &[u16], t: usize, sums: &[u16], sigma: 
 
 // The trial
 
-// The value at y of the first `count` coefficients.
-fn value_at(m: usize, powers: &[u16], logs: &[u16], y: u16, sigma: &[u16], count: usize) -> u16
-    requires { ⌜ (Tables m (now powers) (now logs)) × (y < 2 ^ m) × (count ≤ length (now sigma)) × ((i : ℕ) → i < count → getD (now sigma) i 0 < 2 ^ m) ⌝ }
-    ensures { λ v. ⌜ v ≡ valueFrom m y (now (sigma .entry)) 0 count ⌝ }
+// Room for the values at all places, n at most 1,023.
+fn values_space() -> [u16; 1023]
+    ensures { λ r. ⌜ 1023 ≡ length r ⌝ }
 {
-    let mut v = 0;
-    let mut k = count;
-    while 0 < k {
-        k -= 1;
-        let s = field::product(m, powers, logs, y, v);
-        v = sigma[k] ^ s;
+    [0; 1023]
+}
+
+// To the values of all places the term with coefficient s at place j is added. Place i is tried at a^(n-i), so the term's exponent goes down by j from one place to the next; 0 has no logarithm and adds nothing.
+fn add_term(m: usize, powers: &[u16], logs: &[u16], s: u16, j: usize, values: &mut [u16])
+    requires { ⌜ (Tables m (now powers) (now logs)) × (s < 2 ^ m) × (nOf m ≤ length (now values)) ⌝ }
+    ensures { λ _. ⌜ Filled (plusTerm m s j (now (values .entry))) (nOf m) (now (values .entry)) (now (values .exit)) ⌝ }
+{
+    if s != 0 {
+        let n = field::n_of(m);
+        let from = logs[s as usize] as usize;
+        let down = j % n;
+        let step = n - down;
+        add_walk(m, powers, from, step, n, values);
     }
-    v
+}
+
+// The first n entries become the values of the first `count` coefficients, each where its place is tried.
+fn all_values(
+    m: usize,
+    powers: &[u16],
+    logs: &[u16],
+    sigma: &[u16],
+    count: usize,
+    values: &mut [u16],
+)
+    requires { ⌜ (Tables m (now powers) (now logs)) × (count ≤ length (now sigma)) × ((i : ℕ) → i < count → getD (now sigma) i 0 < 2 ^ m) × (nOf m ≤ length (now values)) ⌝ }
+    ensures { λ _. ⌜ Filled (tried m (now (sigma .entry)) count) (nOf m) (now (values .entry)) (now (values .exit)) ⌝ }
+{
+    let n = field::n_of(m);
+    clear_first(n, values);
+    let mut j = 0;
+    while j < count {
+        let s = sigma[j];
+        add_term(m, powers, logs, s, j, values);
+        j += 1;
+    }
 }
 
 // Writes place i down if the value v there is 0, and answers how many are found then: t + 1 if there is no more room.
@@ -335,7 +379,7 @@ fn note(v: u16, i: usize, t: usize, found: usize, places: &mut [u16]) -> usize
     found + 1
 }
 
-// All places at which sigma is zero, ascending: place i is tried at a^(n-i). Given up when more than t are found.
+// All places at which sigma is zero, ascending. Given up when more than t are found.
 fn try_all(
     m: usize,
     powers: &[u16],
@@ -348,18 +392,17 @@ fn try_all(
     requires { ⌜ (Tables m (now powers) (now logs)) × (count ≤ length (now sigma)) × ((i : ℕ) → i < count → getD (now sigma) i 0 < 2 ^ m) × (t ≤ length (now places)) ⌝ }
     ensures { λ found. ⌜ Tried m t (now (sigma .entry)) count found (now (places .exit)) ⌝ }
 {
+    let mut values = values_space();
+    all_values(m, powers, logs, sigma, count, &mut values);
     let n = field::n_of(m);
-    let back = field::power(m, powers, logs, 2, n - 1);
-    let mut y = 1;
     let mut found = 0;
     let mut i = 0;
     while i < n {
-        let v = value_at(m, powers, logs, y, sigma, count);
+        let v = values[i];
         found = note(v, i, t, found, places);
         if t < found {
             return found;
         }
-        y = field::product(m, powers, logs, y, back);
         i += 1;
     }
     found
@@ -383,20 +426,12 @@ fn first_difference(t: usize, xs: &[u16], ys: &[u16]) -> usize
 }
 
 // The first place below t where the sums of the places differ from the given ones, or t.
-fn compare(
-    m: usize,
-    powers: &[u16],
-    logs: &[u16],
-    t: usize,
-    places: &[u16],
-    count: usize,
-    sums: &[u16],
-) -> usize
-    requires { ⌜ (Tables m (now powers) (now logs)) × (t ≤ 255) × (count ≤ length (now places)) × (t ≤ length (now sums)) ⌝ }
+fn compare(m: usize, powers: &[u16], t: usize, places: &[u16], count: usize, sums: &[u16]) -> usize
+    requires { ⌜ (Listed m) × (Powers m (now powers)) × (t ≤ 255) × (count ≤ length (now places)) × (t ≤ length (now sums)) ⌝ }
     ensures { λ r. ⌜ Agrees m t (take count (now (places .entry))) (now (sums .entry)) r ⌝ }
 {
     let mut own = space();
-    place_sums(m, powers, logs, t, places, count, &mut own);
+    place_sums(m, powers, t, places, count, &mut own);
     first_difference(t, &own, sums)
 }
 
@@ -430,7 +465,7 @@ fn find(
     if t < found {
         return found;
     }
-    let other = compare(m, powers, logs, t, places, found, sums);
+    let other = compare(m, powers, t, places, found, sums);
     if other < t {
         return t + 1;
     }

@@ -14,13 +14,13 @@ slice-aggregate-place-sums : tie.Need-slice-aggregate-place-sums
 slice-aggregate-place-sums c = sym (space-long (c .before .space .ensures))
 
 place-sums-requires : tie.Need-place-sums-requires
-place-sums-requires c κs = let l = space-long (c .before .space .ensures) in let p = c .before .before .before .before .before .before .pre in (p .0, p .2, omega arith)
+place-sums-requires c κs = let l = space-long (c .before .space .ensures) in let p = c .before .before .before .before .before .pre in (p .0, p .1, p .3, omega arith)
 
 slice-aggregate-first-difference : tie.Need-slice-aggregate-first-difference
 slice-aggregate-first-difference c = sym (c .before .before .place-sums .ensures .same ∙ space-long (c .before .before .before .before .space .ensures))
 
 first-difference-requires : tie.Need-first-difference-requires
-first-difference-requires c κs = let l = c .before .before .place-sums .ensures .same ∙ space-long (c .before .before .before .before .space .ensures) in let p = c .before .before .before .before .before .before .before .before .before .pre in (omega arith, p .3)
+first-difference-requires c κs = let l = c .before .before .place-sums .ensures .same ∙ space-long (c .before .before .before .before .space .ensures) in let p = c .before .before .before .before .before .before .before .before .pre in (omega arith, p .4)
 
 returns : tie.Need-returns
 returns c = agrees (c .before .before .before .place-sums .ensures) (c .first-difference .ensures)

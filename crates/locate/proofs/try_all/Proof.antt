@@ -1,46 +1,47 @@
--- The loop keeps: the places below i are tried, the zeros among them are written down, and y is a^(n-i).
+-- The loop keeps: the places below i are tried, and the zeros among them are written down.
 use mathlib.Core.Path.{_∙_}
 use Prim.Native.Nat.{_-_}
 use native.Mathlib.Omega.{arith}
 use Rattle.locate.proofs.TrialLaws.{Trying, trying-start, trying-next, trying-passed, trying-done}
-use Rattle.field.proofs.Order.{eight-bound}
 use Rattle.field.proofs.Range.{sizes}
-use Rattle.field.proofs.PowerLaws.{power-bound}
 use Rattle.locate.proofs.try_all.Statement.{statement}
 use Rattle.locate.proofs.try_all.Tie as tie
 
 abbrev Inv-loop : tie.InvT-loop
-Inv-loop m powers logs t sigma count places₀ n back y₀ found₀ i₀ places y found i = Trying m t sigma count n back places₀ places y found i
+Inv-loop m powers logs t sigma count places₀ values n found₀ i₀ places found i = Trying m t sigma count n places₀ places found i
 
 abbrev μ-loop : tie.MeasureT-loop
-μ-loop m powers logs t sigma count places₀ n back y₀ found₀ i₀ places y found i = n - i
+μ-loop m powers logs t sigma count places₀ values n found₀ i₀ places found i = n - i
+
+values-space-requires : tie.Need-values-space-requires Inv-loop μ-loop
+values-space-requires c κs = omega arith
+
+slice-aggregate-all-values : tie.Need-slice-aggregate-all-values Inv-loop μ-loop
+slice-aggregate-all-values c = omega arith
+
+all-values-requires : tie.Need-all-values-requires Inv-loop μ-loop
+all-values-requires c κs = let s = c .before .before .before .before .before .before in let k = sizes (s .pre .0 .listed) in (s .pre .0, s .pre .1, s .pre .2, omega (arith, c .before .values-space .ensures))
 
 n-of-requires : tie.Need-n-of-requires Inv-loop μ-loop
-n-of-requires c κs = c .before .before .before .before .pre .0 .listed
-
-sub-power : tie.Need-sub-power Inv-loop μ-loop
-sub-power c = let s = sizes (c .before .before .before .before .before .pre .0 .listed) in omega arith
-
-power-requires : tie.Need-power-requires Inv-loop μ-loop
-power-requires c κs = let s = c .before .before .before .before .before in (s .pre .0, omega (arith, eight-bound (s .pre .0 .listed)))
+n-of-requires c κs = c .before .before .before .before .before .before .before .before .pre .0 .listed
 
 loop-holds : tie.Need-loop-holds Inv-loop μ-loop
-loop-holds c = trying-start _ _ _ _ _ (c .before .before .before .before .before .before .pre .0 .listed) (c .before .n-of .ensures)
+loop-holds c = trying-start _ _ _ _ _ _
 
-value-at-requires : tie.Need-value-at-requires Inv-loop μ-loop
-value-at-requires c κs = let p = c .before .before .before .before .before .before .before .before .pre in (p .0, rw (c .before .loop .inv .here) (power-bound (p .0 .listed) _ _), p .1, p .2)
+mul-v : tie.Need-mul-v Inv-loop μ-loop
+mul-v c = omega arith
+
+array-read-v : tie.Need-array-read-v Inv-loop μ-loop
+array-read-v c = let k = sizes (c .before .before .before .before .before .before .before .before .before .before .before .pre .0 .listed) in omega (arith, c .before .before .n-of .ensures)
 
 note-requires : tie.Need-note-requires Inv-loop μ-loop
-note-requires c κs = let p = c .before .before .before .before .before .before .before .before .before .before .pre in let s = sizes (p .0 .listed) in (omega arith, c .before .before .before .loop .inv .room, omega (arith, p .3, c .before .before .before .loop .inv .same))
+note-requires c κs = let s = c .before .before .before .before .before .before .before .before .before .before .before .before in let k = sizes (s .pre .0 .listed) in (omega (arith, c .before .before .before .n-of .ensures), c .before .before .loop .inv .room, omega (arith, s .pre .3, c .before .before .loop .inv .same))
 
 same-length : tie.Need-same-length Inv-loop μ-loop
-same-length c = c .before .before .before .note .ensures .same ∙ c .before .before .before .before .before .before .before .loop .inv .same
+same-length c = c .before .before .before .note .ensures .same ∙ c .before .before .before .before .before .before .loop .inv .same
 
 returns : tie.Need-returns Inv-loop μ-loop
-returns c = trying-passed (c .before .before .before .before .before .before .before .before .before .before .before .before .before .before .pre .0 .listed) (c .before .before .before .before .before .before .before .loop .inv) (c .before .before .before .before .before .before .before .before .before .n-of .ensures) (c .before .before .before .before .before .before .loop-test .taken) (c .before .before .before .before .before .value-at .ensures) (c .before .before .before .note .ensures) (c .if1 .taken)
-
-product-requires : tie.Need-product-requires Inv-loop μ-loop
-product-requires c κs = let s = c .before .before .before .before .before .before .before .before .before .before .before .before .before .before in let L = s .pre .0 .listed in (s .pre .0, rw (c .before .before .before .before .before .before .before .loop .inv .here) (power-bound L _ _), rw (c .before .before .before .before .before .before .before .before .power .ensures) (power-bound L _ _))
+returns c = trying-passed (c .before .before .before .before .before .before .loop .inv) (c .before .before .before .before .before .before .before .n-of .ensures) (c .before .before .before .before .before .loop-test .taken) (c .before .before .before .before .before .before .before .before .before .all-values .ensures .holds _ (omega (arith, c .before .before .before .before .before .before .before .n-of .ensures))) (c .before .before .before .note .ensures) (c .if1 .taken)
 
 add-i : tie.Need-add-i Inv-loop μ-loop
 add-i c = omega arith
@@ -49,13 +50,13 @@ loop-less : tie.Need-loop-less Inv-loop μ-loop
 loop-less c = omega arith
 
 loop-again : tie.Need-loop-again Inv-loop μ-loop
-loop-again c = trying-next (c .before .before .before .before .before .before .before .before .before .before .before .before .before .before .before .pre .0 .listed) (c .before .before .before .before .before .before .before .before .loop .inv) (c .before .before .before .before .before .before .before .before .before .before .n-of .ensures) (c .before .before .before .before .before .before .before .loop-test .taken) (c .before .before .before .before .before .before .value-at .ensures) (c .before .before .before .before .note .ensures) (c .before .before .before .before .before .before .before .before .before .power .ensures) (c .before .if1 .left) (c .product .ensures)
+loop-again c = trying-next (c .before .before .before .before .before .before .loop .inv) (c .before .before .before .before .before .before .before .n-of .ensures) (c .before .before .before .before .before .loop-test .taken) (c .before .before .before .before .before .before .before .before .before .all-values .ensures .holds _ (omega (arith, c .before .before .before .before .before .before .before .n-of .ensures))) (c .before .before .before .note .ensures) (c .if1 .left)
 
 same-length-2 : tie.Need-same-length-2 Inv-loop μ-loop
 same-length-2 c = c .before .loop .inv .same
 
 returns-2 : tie.Need-returns-2 Inv-loop μ-loop
-returns-2 c = trying-done (c .before .loop .inv) (c .before .before .before .n-of .ensures) (c .loop-test .left)
+returns-2 c = trying-done (c .before .loop .inv) (c .before .before .n-of .ensures) (c .loop-test .left)
 
 pub try-all-spec : {M : Type 1} → statement M
 try-all-spec =
@@ -63,15 +64,16 @@ try-all-spec =
     (tie.spec
     Inv-loop
     μ-loop
+    values-space-requires
+    slice-aggregate-all-values
+    all-values-requires
     n-of-requires
-    sub-power
-    power-requires
     loop-holds
-    value-at-requires
+    mul-v
+    array-read-v
     note-requires
     same-length
     returns
-    product-requires
     add-i
     loop-less
     loop-again
