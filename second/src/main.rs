@@ -1,4 +1,4 @@
-//! An independent second program, written from the rules of the code alone; what it prints is compared with the proved programs.
+//! A second program that shares no code with the proved crates; what it prints is compared with what they print. Its decoder uses another method, but was written by someone who had read theirs.
 
 mod codes;
 mod euclid;
