@@ -29,7 +29,8 @@ use Rattle.codes.specs.Look.{codeRefusal, Accepted}
 use Rattle.codec.specs.Encode.{hasBadBit}
 use Rattle.codec.specs.declared.decoding.Decoded.{Decoded}
 use Rattle.codec.specs.declared.decoding.Decoded.the-variants.{Mended, Refused}
-use Rattle.codec.specs.Decode.{Decodes, Finds, Kept, Mends, Far, Ready, OddSums, WrongPlaces, PutDown, decodeRefusal}
+use Rattle.codec.specs.Decode.{Decodes, Finds, Kept, Mends, Far, decodeRefusal}
+use Rattle.codec.specs.Work.{Ready, OddSums, WrongPlaces, PutDown}
 use Rattle.codec.proofs.DecodeLaws.{mends, located-word, nothing-near}
 
 -- the list so far
@@ -66,9 +67,6 @@ finds-nothing f = record { mended = λ z. absurd (refusal-not NothingNear z); fa
 
 pub finds-mended : {m t count : ℕ} {received word list : List ℕ} → Mends m t received word list count → Finds m t received (Mended count) word list
 finds-mended w = record { mended = λ z. w; far = λ n. absurd (n refl) }
-
-pub kept-mended : (count : ℕ) {lentWord lentList word list : List ℕ} → Kept (Mended count) lentWord lentList word list
-kept-mended count n = absurd (n refl)
 
 pub decode-early : {m t : ℕ} {r : Refusal} (received word list : List ℕ) → ((later : ℕ) → codeRefusal m t later ≡ numberOf r) → Decodes m t received word list (Refused r) word list
 unfolding decodeRefusal
@@ -113,7 +111,7 @@ put-down {m} {t} {received} {places} {mended} {lentWord} {lentList} {word} {list
     let E = mends (R .accepted .listed) (R .received-bits) (R .received-long) (W .of-received .holds) (W .located) (P .is-word ∙ e)
     (P .is-list ∙ ap (λ (x : ℕ). places ++ replicate (x - length places) 0) (R .list-long)) in
     subst (λ (a : Decoded). Finds m t received a word list × Kept a lentWord lentList word list) (sym (P .answers))
-    (finds-mended E, kept-mended (length places))
+    (finds-mended E, λ n. absurd (n refl))
 
 -- what the places of a received word allow
 pub record Usable (m t : ℕ) (received places : List ℕ) : Type 0 where

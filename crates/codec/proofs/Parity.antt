@@ -18,7 +18,8 @@ use Rattle.codes.specs.Sums.{sumOf}
 use Rattle.codes.specs.Generator.{Generator}
 use Rattle.codes.specs.Work.{Reduced}
 use Rattle.codes.proofs.SumLaws.{sum-same, sum-added}
-use Rattle.codec.specs.Encode.{Encoding, WithParity}
+use Rattle.codec.specs.Encode.{Encoding}
+use Rattle.codec.specs.Work.{WithParity}
 
 -- cutting off what is zero changes nothing
 cut-same : (left : List ℕ) (d : ℕ) → d ≤ length left → ((i : ℕ) → d ≤ i → getD left i 0 ≡ 0) → (i : ℕ) → getD (take d left) i 0 ≡ getD left i 0

@@ -3,16 +3,14 @@ use mathlib.Core.Path.{_≡_}
 use mathlib.Core.Bool.{not}
 use mathlib.Core.List.{List, _++_}
 use mathlib.Core.Logic.{_≢_}
-use Prim.Native.Nat.{ℕ, _+_, _-_, _*_, _≤_, _<_}
+use Prim.Native.Nat.{ℕ, _-_, _≤_}
 use lib.Dec.{eqb}
-use lib.ListN.{length, getD, replicate}
+use lib.ListN.{length, replicate}
 use Rattle.sheet.specs.Number.{numberOf, refuseIf}
-use Rattle.bits.specs.Bits.{AreBits}
 use Rattle.bits.specs.Differences.{differences, distance}
 use Rattle.field.specs.Power.{nOf}
-use Rattle.codes.specs.Look.{codeRefusal, Accepted}
-use Rattle.codes.specs.Sums.{CodeWord, sumOf}
-use Rattle.locate.specs.Located.{Located}
+use Rattle.codes.specs.Look.{codeRefusal}
+use Rattle.codes.specs.Sums.{CodeWord}
 use Rattle.codec.specs.Encode.{hasBadBit}
 use Rattle.codec.specs.declared.decoding.Decoded.{Decoded}
 use Rattle.codec.specs.declared.decoding.Decoded.the-variants.{Mended, Refused}
@@ -59,28 +57,3 @@ pub record Decodes (m t : ℕ) (received lentWord lentList : List ℕ) (answer :
   pub checked : decodeRefusal m t received lentWord lentList ≢ 0 → decodedNumber answer ≡ decodeRefusal m t received lentWord lentList
   pub found : decodeRefusal m t received lentWord lentList ≡ 0 → Finds m t received answer word list
   pub kept : Kept answer lentWord lentList word list
-
--- the checks have passed
-pub record Ready (m t : ℕ) (received word list : List ℕ) : Type 0 where
-  pub accepted : Accepted m t
-  pub received-long : length received ≡ nOf m
-  pub received-bits : AreBits received
-  pub word-long : length word ≡ nOf m
-  pub list-long : length list ≡ t
-
--- the first t entries are the odd sums of a word
-pub record OddSums (m t : ℕ) (word sums : List ℕ) : Type 0 where
-  pub long : 255 ≡ length sums
-  pub holds : (i : ℕ) → i < t → getD sums i 0 ≡ sumOf m (2 * i + 1) word
-
--- the places have the odd sums of what came in
-pub record WrongPlaces (m t : ℕ) (received places : List ℕ) : Type 0 where
-  pub sums : List ℕ
-  pub of-received : OddSums m t received sums
-  pub located : Located m t sums places
-
--- the mended word and its places are written down: the second check has not refused
-pub record PutDown (mended places lentList : List ℕ) (answer : Decoded) (word list : List ℕ) : Type 0 where
-  pub answers : answer ≡ Mended (length places)
-  pub is-word : word ≡ mended
-  pub is-list : list ≡ places ++ replicate (length lentList - length places) 0

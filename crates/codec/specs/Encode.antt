@@ -3,15 +3,14 @@ use mathlib.Core.Path.{_≡_}
 use mathlib.Core.Bool.{Bool, not}
 use mathlib.Core.List.{List}
 use mathlib.Core.Logic.{_≢_}
-use Prim.Native.Nat.{ℕ, _+_, _-_, _≤_, _<_}
+use Prim.Native.Nat.{ℕ, _+_, _-_, _<_}
 use lib.Dec.{eqb, ltb}
 use lib.ListN.{length, getD}
 use Rattle.sheet.specs.Number.{numberOf, refuseIf}
-use Rattle.bits.specs.Bits.{AreBits, firstAbove}
-use Rattle.field.specs.Product.{Listed}
+use Rattle.bits.specs.Bits.{firstAbove}
 use Rattle.field.specs.Power.{nOf}
 use Rattle.codes.specs.Look.{kOf, codeRefusal}
-use Rattle.codes.specs.Sums.{CodeWord, sumOf}
+use Rattle.codes.specs.Sums.{CodeWord}
 use Rattle.codec.specs.declared.encoding.Encoded.{Encoded}
 use Rattle.codec.specs.declared.encoding.Encoded.the-variants.{Done, Refused}
 
@@ -39,9 +38,3 @@ pub record Encodes (m t : ℕ) (message lent : List ℕ) (answer : Encoded) (lef
   pub number : encodedNumber answer ≡ encodeRefusal m t message lent
   pub done : encodeRefusal m t message lent ≡ 0 → Encoding m t (kOf m t) message left
   pub refused : encodeRefusal m t message lent ≢ 0 → left ≡ lent
-
--- what is left of the word after division by g of degree d is added below place d: a sum that vanishes for g now vanishes for the word
-pub record WithParity (d : ℕ) (g before after : List ℕ) : Type 0 where
-  pub bits : AreBits after
-  pub above : (i : ℕ) → d ≤ i → getD after i 0 ≡ getD before i 0
-  pub sums : {m : ℕ} → Listed m → (j : ℕ) → sumOf m j g ≡ 0 → sumOf m j after ≡ 0

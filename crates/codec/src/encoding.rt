@@ -7,7 +7,8 @@ ghost use lib.Seq.{paste};
 ghost use Rattle.bits.specs.Bits.{AreBits};
 ghost use Rattle.field.specs.Power.{nOf};
 ghost use Rattle.codes.specs.Table.{RowOf, ks, ts};
-ghost use Rattle.codec.specs.Encode.{Encodes, Encoding, WithParity};
+ghost use Rattle.codec.specs.Encode.{Encodes, Encoding};
+ghost use Rattle.codec.specs.Work.{WithParity};
 use codes::Look;
 use sheet::Refusal;
 

@@ -1,3 +1,4 @@
 pub mod OneOutcome
 pub mod Shown
 pub mod Near
+pub mod CardOutcome

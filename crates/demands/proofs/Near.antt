@@ -23,7 +23,8 @@ use Rattle.codes.proofs.LookLaws.{code-listed, accepted}
 use Rattle.locate.proofs.FindLaws.{one-set}
 use Rattle.codec.specs.declared.decoding.Decoded.{Decoded}
 use Rattle.codec.specs.declared.decoding.Decoded.the-variants.{Mended, Refused}
-use Rattle.codec.specs.Decode.{Decodes, Mends, Ready, decodeRefusal, decodedNumber, decodedCount}
+use Rattle.codec.specs.Work.{Ready}
+use Rattle.codec.specs.Decode.{Decodes, Mends, decodeRefusal, decodedNumber, decodedCount}
 use Rattle.codec.proofs.DecodeLaws.{near-located}
 
 -- the first n values in a list
