@@ -1,9 +1,9 @@
 -- Bits lent one to a byte.
-use mathlib.Core.Bool.{cond}
+use mathlib.Core.Bool.{Bool, cond}
 use mathlib.Core.List.{List, [], _∷_, map}
 use Prim.Native.Nat.{ℕ, zero, suc, _-_, _*_, _≤_}
 use lib.Bits.{bitXor}
-use lib.Dec.{leb}
+use lib.Dec.{leb, ltb}
 use lib.ListN.{length, getD, set, replicate}
 
 -- every place holds 0 or 1
@@ -14,6 +14,10 @@ pub record AreBits (xs : List ℕ) : Type 0 where
 unfoldable pub firstAbove : List ℕ → ℕ
 firstAbove [] = 0
 firstAbove (x ∷ xs) = cond (leb x 1) (suc (firstAbove xs)) 0
+
+-- one of a lent slice's places holds more than 1
+abbrev pub hasBadBit : List ℕ → Bool
+hasBadBit xs = ltb (firstAbove xs) (length xs)
 
 -- ys added into xs from its first place on: exclusive-or, place by place
 unfoldable pub added : List ℕ → List ℕ → List ℕ

@@ -3,19 +3,15 @@ use mathlib.Core.Path.{_≡_, _∙_, refl, sym, ap, subst}
 use mathlib.Core.Bool.{not}
 use mathlib.Core.List.{List, _++_, List·Memᴰ}
 use Prim.Native.Nat.{ℕ, _+_, _-_, _*_, _^_, _≤_, _<_}
-use native.Mathlib.Nat.{ne-of-lt}
 use native.Mathlib.Omega.{arith}
-use borrow.Author.Count.{below-more}
 use borrow.Author.Tests.{eq-eqb, ne-eqb, lt-ltb, le-ltb}
 use lib.Dec.{eqb}
-use lib.ListN.{length, getD, set, take, replicate, length-set, length-append, length-replicate}
-use lib.Seq.{getD-set-same, getD-set-other, ext-getD}
+use lib.ListN.{length, getD, take, replicate}
 use Rattle.sheet.specs.declared.Refusal.{Refusal}
 use Rattle.sheet.specs.declared.Refusal.the-variants.{InputLength, OutputLength, BitAboveOne, NothingNear}
 use Rattle.sheet.specs.Number.{numberOf, refuseIf}
 use Rattle.sheet.proofs.NumberLaws.{number-positive}
 use Rattle.bits.specs.Bits.{AreBits, firstAbove, flipped}
-use Rattle.bits.proofs.BitLaws.{padded-at}
 use Rattle.field.specs.Product.{Listed}
 use Rattle.field.specs.Power.{nOf}
 use Rattle.field.proofs.Range.{sizes}
@@ -26,37 +22,13 @@ use Rattle.locate.specs.declared.Found.{Found}
 use Rattle.locate.specs.declared.Found.the-variants.{Places, Nothing}
 use Rattle.locate.specs.Located.{Located, Tells, Searched}
 use Rattle.codes.specs.Look.{codeRefusal, Accepted}
-use Rattle.codec.specs.Encode.{hasBadBit}
+use Rattle.bits.specs.Bits.{hasBadBit}
 use Rattle.codec.specs.declared.decoding.Decoded.{Decoded}
 use Rattle.codec.specs.declared.decoding.Decoded.the-variants.{Mended, Refused}
 use Rattle.codec.specs.Decode.{Decodes, Finds, Kept, Mends, Far, decodeRefusal}
-use Rattle.codec.specs.Work.{Ready, OddSums, WrongPlaces, PutDown}
+use Rattle.sums.specs.Rows.{OddSums}
+use Rattle.codec.specs.Work.{Ready, WrongPlaces, PutDown}
 use Rattle.codec.proofs.DecodeLaws.{mends, located-word, nothing-near}
-
--- the list so far
-pub record Listing (places first list : List ℕ) (i : ℕ) : Type 0 where
-  pub fits : length places ≤ length first
-  pub same : length list ≡ length first
-  pub within : i ≤ length first
-  pub holds : (j : ℕ) → j < i → getD list j 0 ≡ getD places j 0
-
-pub listing-next : {places first list : List ℕ} {i x : ℕ} → Listing places first list i → i < length list → x ≡ getD places i 0 → Listing places first (set list i x) (i + 1)
-listing-next {places} {first} {list} {i} {x} s h e =
-    record {
-      fits = s .fits;
-      same = simp length-set (s .same);
-      within = omega (arith, s .same);
-      holds = below-more _ i (λ j k. getD-set-other list i j x 0 (ne-of-lt k) ∙ s .holds j k) (getD-set-same list i x 0 h ∙ e);
-    }
-
-pub listing-done : {places first list : List ℕ} {i : ℕ} → Listing places first list i → length list ≤ i → list ≡ places ++ replicate (length first - length places) 0
-listing-done {places} {first} {list} {i} s h =
-    ext-getD 0 list (places ++ replicate (length first - length places) 0)
-    (s .same ∙ long)
-    (λ j k. s .holds j (omega arith) ∙ sym (padded-at places (length first - length places) j))
-  where
-    long : length first ≡ length (places ++ replicate (length first - length places) 0)
-    long = omega (arith, s .fits, length-append places (replicate (length first - length places) 0), length-replicate {A = ℕ} (length first - length places) 0)
 
 -- a refusal is no mended word
 refusal-not : (r : Refusal) → numberOf r ≡ 0 → ⊥

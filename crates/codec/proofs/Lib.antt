@@ -1,4 +1,3 @@
-pub mod Parity
 pub mod DescribeLaws
 pub mod EncodeLaws
 pub mod DecodeLaws

@@ -11,7 +11,7 @@ use Rattle.bits.specs.Differences.{differences, distance}
 use Rattle.field.specs.Power.{nOf}
 use Rattle.codes.specs.Look.{codeRefusal}
 use Rattle.codes.specs.Sums.{CodeWord}
-use Rattle.codec.specs.Encode.{hasBadBit}
+use Rattle.bits.specs.Bits.{hasBadBit}
 use Rattle.codec.specs.declared.decoding.Decoded.{Decoded}
 use Rattle.codec.specs.declared.decoding.Decoded.the-variants.{Mended, Refused}
 

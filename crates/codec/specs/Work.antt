@@ -1,22 +1,15 @@
--- What the steps of Encode and Decode hand to each other; no promise of an operation speaks of it.
+-- What the steps of Decode hand to each other; no promise of an operation speaks of it.
 use mathlib.Core.Path.{_≡_}
 use mathlib.Core.List.{List, _++_}
-use Prim.Native.Nat.{ℕ, _+_, _-_, _*_, _≤_, _<_}
-use lib.ListN.{length, getD, replicate}
+use Prim.Native.Nat.{ℕ, _-_}
+use lib.ListN.{length, replicate}
 use Rattle.bits.specs.Bits.{AreBits}
-use Rattle.field.specs.Product.{Listed}
 use Rattle.field.specs.Power.{nOf}
 use Rattle.codes.specs.Look.{Accepted}
-use Rattle.codes.specs.Sums.{sumOf}
+use Rattle.sums.specs.Rows.{OddSums}
 use Rattle.locate.specs.Located.{Located}
 use Rattle.codec.specs.declared.decoding.Decoded.{Decoded}
 use Rattle.codec.specs.declared.decoding.Decoded.the-variants.{Mended}
-
--- what is left of the word after division by g of degree d is added below place d: a sum that vanishes for g now vanishes for the word
-pub record WithParity (d : ℕ) (g before after : List ℕ) : Type 0 where
-  pub bits : AreBits after
-  pub above : (i : ℕ) → d ≤ i → getD after i 0 ≡ getD before i 0
-  pub sums : {m : ℕ} → Listed m → (j : ℕ) → sumOf m j g ≡ 0 → sumOf m j after ≡ 0
 
 -- the checks have passed
 pub record Ready (m t : ℕ) (received word list : List ℕ) : Type 0 where
@@ -25,11 +18,6 @@ pub record Ready (m t : ℕ) (received word list : List ℕ) : Type 0 where
   pub received-bits : AreBits received
   pub word-long : length word ≡ nOf m
   pub list-long : length list ≡ t
-
--- the first t entries are the odd sums of a word
-pub record OddSums (m t : ℕ) (word sums : List ℕ) : Type 0 where
-  pub long : 255 ≡ length sums
-  pub holds : (i : ℕ) → i < t → getD sums i 0 ≡ sumOf m (2 * i + 1) word
 
 -- the places have the odd sums of what came in
 pub record WrongPlaces (m t : ℕ) (received places : List ℕ) : Type 0 where

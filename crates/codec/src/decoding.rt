@@ -1,16 +1,15 @@
 // Decode: the code word within t of what came in.
 
 ghost use mathlib.Core.Path.{_≡_};
-ghost use mathlib.Core.Bool.{true};
-ghost use mathlib.Core.List.{List·Memᴰ, _++_};
-ghost use Prim.Native.Nat.{ℕ, _+_, _-_, _*_, _≤_, _<_};
-ghost use lib.ListN.{length, getD, take, replicate};
+ghost use mathlib.Core.List.{List·Memᴰ};
+ghost use Prim.Native.Nat.{ℕ, _-_, _≤_, _<_};
+ghost use lib.ListN.{length, take};
 ghost use Rattle.bits.specs.Bits.{AreBits, flipped};
 ghost use Rattle.field.specs.Tables.{Tables};
 ghost use Rattle.codes.specs.Look.{Accepted};
-ghost use Rattle.codes.specs.Sums.{CodeWord, sumOf};
+ghost use Rattle.codes.specs.Sums.{CodeWord};
 ghost use Rattle.codec.specs.Decode.{Decodes, Finds, Kept};
-ghost use Rattle.codec.specs.Work.{Ready, OddSums, WrongPlaces, PutDown};
+ghost use Rattle.codec.specs.Work.{Ready, WrongPlaces, PutDown};
 use codes::Look;
 use locate::Found;
 use sheet::Refusal;
@@ -77,7 +76,7 @@ fn mend_with(
     requires { ⌜ Ready m t (now received) (now word) (now list) × Tables m (now powers) (now logs) ⌝ }
     ensures { λ r. ⌜ Finds m t (now (received .entry)) r (now (word .exit)) (now (list .exit)) × Kept r (now (word .entry)) (now (list .entry)) (now (word .exit)) (now (list .exit)) ⌝ }
 {
-    let sums = odd_sums(m, t, powers, logs, received);
+    let sums = sums::odd_sums(m, t, powers, logs, received);
     let search = locate::locate(m, t, powers, logs, &sums);
     let answer = search.answer;
     let places = search.places;
@@ -85,22 +84,6 @@ fn mend_with(
         Found::Places(count) => put_first(m, t, powers, logs, &places, count, received, word, list),
         Found::Nothing => Decoded::Refused(Refusal::NothingNear),
     }
-}
-
-fn sums_space() -> [u16; 255]
-    ensures { λ r. ⌜ 255 ≡ length r ⌝ }
-{
-    [0; 255]
-}
-
-// S_1, S_3, .. S_(2t-1) of a word.
-fn odd_sums(m: usize, t: usize, powers: &[u16], logs: &[u16], word: &[u8]) -> [u16; 255]
-    requires { ⌜ Tables m (now powers) (now logs) × AreBits (now word) × (t ≤ 255) ⌝ }
-    ensures { λ r. ⌜ OddSums m t (now (word .entry)) r ⌝ }
-{
-    let mut sums = sums_space();
-    locate::word_sums(m, powers, logs, t, word, &mut sums);
-    sums
 }
 
 // The same for the first `count` of the places.
@@ -154,12 +137,12 @@ fn put_checked(
     requires { ⌜ Tables m (now powers) (now logs) × (t ≤ 255) × CodeWord m t (now mended) × (length (now word) ≡ length (now mended)) × (length (now places) ≤ length (now list)) ⌝ }
     ensures { λ r. ⌜ PutDown (now (mended .entry)) (now (places .entry)) (now (list .entry)) r (now (word .exit)) (now (list .exit)) ⌝ }
 {
-    let passes = sums_vanish(m, t, powers, logs, mended);
+    let passes = sums::vanish(m, t, powers, logs, mended);
     if !passes {
         return Decoded::Refused(Refusal::SecondCheck);
     }
     bits::copy_at(word, 0, mended);
-    put_list(places, list);
+    entries::put_list(places, list);
     Decoded::Mended(places.len())
 }
 
@@ -174,46 +157,4 @@ fn turned_over(received: &[u8], places: &[u16]) -> [u8; 1024]
     bits::copy_at(&mut space, 0, received);
     bits::flip_all(&mut space[..n], places, count);
     space
-}
-
-// Whether S_1, S_3, .. S_(2t-1) of a word are all 0.
-fn sums_vanish(m: usize, t: usize, powers: &[u16], logs: &[u16], word: &[u8]) -> bool
-    requires { ⌜ Tables m (now powers) (now logs) × AreBits (now word) × (t ≤ 255) ⌝ }
-    ensures { λ r. ⌜ (((i : ℕ) → i < t → sumOf m (2 * i + 1) (now (word .entry)) ≡ 0) → r ≡ true) ⌝ }
-{
-    let sums = odd_sums(m, t, powers, logs, word);
-    all_zero(&sums, t)
-}
-
-// Whether the first t entries are all 0.
-fn all_zero(sums: &[u16], t: usize) -> bool
-    requires { ⌜ t ≤ length (now sums) ⌝ }
-    ensures { λ r. ⌜ (((i : ℕ) → i < t → getD (now (sums .entry)) i 0 ≡ 0) → r ≡ true) ⌝ }
-{
-    let mut i = 0;
-    while i < t {
-        if sums[i] != 0 {
-            return false;
-        }
-        i += 1;
-    }
-    true
-}
-
-// The places, then zeros.
-fn put_list(places: &[u16], list: &mut [u16])
-    requires { ⌜ length (now places) ≤ length (now list) ⌝ }
-    ensures { λ _. ⌜ now (list .exit) ≡ now (places .entry) ++ replicate (length (now (list .entry)) - length (now (places .entry))) 0 ⌝ }
-{
-    let mut i = 0;
-    while i < list.len() {
-        list[i] = place_or_zero(places, i);
-        i += 1;
-    }
-}
-
-fn place_or_zero(places: &[u16], i: usize) -> u16
-    ensures { λ r. ⌜ r ≡ getD (now (places .entry)) i 0 ⌝ }
-{
-    if i < places.len() { places[i] } else { 0 }
 }

@@ -1,14 +1,9 @@
 // Encode: the code word that carries a message in its top places.
 
 ghost use mathlib.Core.Path.{_≡_};
-ghost use Prim.Native.Nat.{_+_, _-_, _≤_};
-ghost use lib.ListN.{length, getD, replicate};
-ghost use lib.Seq.{paste};
-ghost use Rattle.bits.specs.Bits.{AreBits};
-ghost use Rattle.field.specs.Power.{nOf};
+ghost use lib.ListN.{getD};
 ghost use Rattle.codes.specs.Table.{RowOf, ks, ts};
-ghost use Rattle.codec.specs.Encode.{Encodes, Encoding};
-ghost use Rattle.codec.specs.Work.{WithParity};
+ghost use Rattle.codec.specs.Encode.{Encodes};
 use codes::Look;
 use sheet::Refusal;
 
@@ -43,38 +38,6 @@ fn encode_row(m: usize, row: usize, k: usize, message: &[u8], word: &mut [u8]) -
     if bad < message.len() {
         return Encoded::Refused(Refusal::BitAboveOne);
     }
-    fill_word(m, row, n - k, message, word);
+    parity::fill_word(m, row, n - k, message, word);
     Encoded::Done
-}
-
-// The code word of a row of m that carries the message, d being n - k.
-pub(crate) fn fill_word(m: usize, row: usize, d: usize, message: &[u8], word: &mut [u8])
-    requires { ⌜ RowOf m row × (d ≡ nOf m - getD ks row 0) × AreBits (now message) × (length (now message) ≡ getD ks row 0) × (length (now word) ≡ nOf m) ⌝ }
-    ensures { λ _. ⌜ Encoding m (getD ts row 0) (getD ks row 0) (now (message .entry)) (now (word .exit)) ⌝ }
-{
-    let g = codes::generator(m, row, d);
-    let end = d + 1;
-    place_message(d, message, word);
-    add_parity(word, &g[..end], d);
-}
-
-// The message from place d on, and zeros everywhere else.
-fn place_message(d: usize, message: &[u8], word: &mut [u8])
-    requires { ⌜ d + length (now message) ≤ length (now word) ⌝ }
-    ensures { λ _. ⌜ now (word .exit) ≡ paste (replicate (length (now (word .entry))) 0) d (now (message .entry)) (length (now (message .entry))) ⌝ }
-{
-    bits::clear(word);
-    bits::copy_at(word, d, message);
-}
-
-// To a word that is clear below place d, what is left of it after division by g of degree d.
-fn add_parity(word: &mut [u8], g: &[u8], d: usize)
-    requires { ⌜ AreBits (now word) × AreBits (now g) × (length (now g) ≡ d + 1) × (getD (now g) d 0 ≡ 1) × (length (now word) ≤ 1024) × (d ≤ length (now word)) ⌝ }
-    ensures { λ _. ⌜ WithParity d (now (g .entry)) (now (word .entry)) (now (word .exit)) ⌝ }
-{
-    let n = word.len();
-    let mut space = codes::word_space();
-    bits::copy_at(&mut space, 0, word);
-    codes::reduce(&mut space[..n], g, d);
-    bits::add_at(word, 0, &space[..d]);
 }

@@ -4,3 +4,4 @@ pub mod Sums
 pub mod Look
 pub mod Generator
 pub mod Work
+pub mod Encoding

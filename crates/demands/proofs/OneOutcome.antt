@@ -19,7 +19,8 @@ use Rattle.codec.specs.declared.encoding.Encoded.{Encoded}
 use Rattle.codec.specs.declared.encoding.Encoded.the-variants.{Done}
 use Rattle.codec.specs.declared.encoding.Encoded.the-variants.{Refused as EncodeRefused}
 use Rattle.codec.specs.Describe.{Describes, describeRefusal, describedNumber, describedN, describedK}
-use Rattle.codec.specs.Encode.{Encodes, Encoding, encodeRefusal, encodedNumber}
+use Rattle.codes.specs.Encoding.{Encoding}
+use Rattle.codec.specs.Encode.{Encodes, encodeRefusal, encodedNumber}
 
 -- the definitions of an answer's number and values tell its cases apart
 pub described-tells : (x y : Described) → describedNumber x ≡ describedNumber y → describedN x ≡ describedN y → describedK x ≡ describedK y → x ≡ y

@@ -17,7 +17,7 @@ use Rattle.codes.proofs.GeneratorLaws.{roots-of-row, generator-is-product}
 use Rattle.codes.proofs.Rows.{row-facts}
 use Rattle.codes.proofs.Taps.{delayed-before, delayed-at}
 use Rattle.codes.proofs.Multiple.{multiple}
-use Rattle.codec.specs.Encode.{Encoding}
+use Rattle.codes.specs.Encoding.{Encoding}
 
 module _ {m row : ℕ} (w : RowOf m row) where
   -- the generator is the product of the minimal polynomials of the rows up to its own, which are those of a, a^3, .. a^(2t-1) (codes, Factors)

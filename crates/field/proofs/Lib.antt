@@ -7,3 +7,4 @@ pub mod Orbit
 pub mod Order
 pub mod Field
 pub mod Range
+pub mod Walks

@@ -4,8 +4,13 @@ use Prim.Native.Nat.{ℕ, zero, suc, _*_, _/_, _%_, _^_, _<_}
 use native.Mathlib.Nat.{mod-lt, zero-lt-suc, zero-mul}
 use native.Mathlib.Omega.{arith}
 use lib.Arith.{bin-ind}
-use lib.Bits.{xor-comm, xor-self, xor-zero-r, xor-lt, xor-shr, xor-mod}
+use lib.Bits.{bitXor, xor-comm, xor-self, xor-zero-r, xor-lt, xor-shr, xor-mod}
 use Rattle.field.specs.Sum.{_⊕_}
+
+-- the code's `^`
+pub xor-sum : (x y : ℕ) → bitXor x y ≡ x ⊕ y
+unfolding _⊕_
+xor-sum x y = refl
 
 pub sum-comm : (x y : ℕ) → x ⊕ y ≡ y ⊕ x
 unfolding _⊕_

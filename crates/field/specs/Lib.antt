@@ -2,3 +2,4 @@ pub mod Sum
 pub mod Product
 pub mod Power
 pub mod Tables
+pub mod Multiples

@@ -1,11 +1,13 @@
 // The field of 2^m elements, m from 3 to 10. An element is a number below 2^m whose bit i is the coefficient of a^i.
 
 ghost use mathlib.Core.Path.{_≡_};
-ghost use Prim.Native.Nat.{_*_, _^_, _≤_, _<_};
+ghost use Prim.Native.Nat.{_*_, _%_, _^_, _≤_, _<_};
 ghost use lib.ListN.{length};
 ghost use Rattle.field.specs.Product.{Listed, polynomial, _⊗⟨_⟩_};
 ghost use Rattle.field.specs.Power.{a, nOf, power, inverse};
 ghost use Rattle.field.specs.Tables.{Powers, Tables};
+ghost use Rattle.field.specs.Multiples.{plusMultiple, plusWalk};
+ghost use Rattle.entries.specs.Entries.{Filled};
 
 // The first list of field polynomials, for m = 3 to 10.
 const POLYNOMIALS: [u16; 8] = [11, 19, 37, 67, 131, 285, 529, 1033];
@@ -117,4 +119,58 @@ pub fn inverse(m: usize, powers: &[u16], logs: &[u16], x: u16) -> u16
     ensures { λ r. ⌜ r ≡ inverse m x ⌝ }
 {
     power(m, powers, logs, x, (1 << m) - 2)
+}
+
+// The exponent below n of the same power as e, which is below 2n.
+pub fn around(n: usize, e: usize) -> usize
+    requires { ⌜ e < 2 * n ⌝ }
+    ensures { λ r. ⌜ r ≡ e % n ⌝ }
+{
+    if e < n {
+        return e;
+    }
+    e - n
+}
+
+// The power p of a.
+pub fn power_of_a(m: usize, powers: &[u16], logs: &[u16], p: usize) -> u16
+    requires { ⌜ (Tables m (now powers) (now logs)) × (p < nOf m) ⌝ }
+    ensures { λ r. ⌜ r ≡ power m a p ⌝ }
+{
+    powers[p]
+}
+
+// To each of the first `count` entries s times the next power of a^step is added, from s itself on.
+pub fn add_multiples(
+    m: usize,
+    powers: &[u16],
+    logs: &[u16],
+    s: u16,
+    step: usize,
+    count: usize,
+    entries: &mut [u16],
+)
+    requires { ⌜ (Tables m (now powers) (now logs)) × (s < 2 ^ m) × (step ≤ nOf m) × (count ≤ length (now entries)) ⌝ }
+    ensures { λ _. ⌜ Filled (plusMultiple m s step (now (entries .entry))) count (now (entries .entry)) (now (entries .exit)) ⌝ }
+{
+    if s != 0 {
+        let from = logs[s as usize] as usize;
+        add_walk(m, powers, from, step, count, entries);
+    }
+}
+
+// The same by exponents, kept below n, so that each power is one look into the table.
+fn add_walk(m: usize, powers: &[u16], from: usize, step: usize, count: usize, entries: &mut [u16])
+    requires { ⌜ (Listed m) × (Powers m (now powers)) × (from < nOf m) × (step ≤ nOf m) × (count ≤ length (now entries)) ⌝ }
+    ensures { λ _. ⌜ Filled (plusWalk m from step (now (entries .entry))) count (now (entries .entry)) (now (entries .exit)) ⌝ }
+{
+    let n = n_of(m);
+    let mut e = from;
+    let mut j = 0;
+    while j < count {
+        let s = entries[j];
+        entries[j] = s ^ powers[e];
+        e = around(n, e + step);
+        j += 1;
+    }
 }

@@ -1,12 +1,13 @@
 -- If there is a set of places with these sums, it is what the trial finds; and there is at most one.
 use mathlib.Core.Path.{_≡_, _∙_, refl, sym, ap, ap₂}
+use mathlib.Core.Bool.{Bool, true, false}
 use mathlib.Core.List.{List, [], _∷_, map, List·Memᴰ, List·Memᴰ·head, List·Memᴰ·tail, List·Memᴰ·not-nil}
 use Prim.Native.Nat.{ℕ, zero, suc, _+_, _-_, _*_, _/_, _%_, _^_, _≤_, _<_}
 use native.Mathlib.Nat.{add-zero}
 use native.Mathlib.Numerals.{add-one}
 use native.Mathlib.Decide.{ℕ-discrete}
 use native.Mathlib.Omega.{arith}
-use lib.ListN.{length, getD, take, replicate}
+use lib.ListN.{length, getD, take}
 use lib.Seq.{length-take-le}
 use Rattle.algebra.specs.Ring.{Ring, Field}
 use Rattle.algebra.specs.Series.{Series, tail, EqualBelow, Distinct, evaluate}
@@ -18,7 +19,6 @@ use Rattle.algebra.proofs.Run.{run-degree}
 use Rattle.algebra.proofs.Finds.{Finds, NonZero, finds, short-before, same-set}
 use Rattle.bits.specs.Differences.{Ascending}
 use Rattle.bits.proofs.Places.{ascending-same}
-use Rattle.bits.proofs.BitLaws.{zeros-at}
 use Rattle.field.specs.Sum as Sum
 use Rattle.field.specs.Product.{Listed, _⊗⟨_⟩_}
 use Rattle.field.specs.Power.{a, nOf, power}
@@ -28,9 +28,11 @@ use Rattle.field.proofs.Field.{field, ringOf, el-path, power-number}
 use Rattle.codes.specs.Sums.{sumOver}
 use Rattle.codes.proofs.SumLaws.{sumOver-nil, sumOver-cons, sumOver-square}
 use Rattle.locate.specs.Located.{Located}
-use Rattle.locate.specs.Work.{Squared, valueFrom, tried, zeros, Tried, Compared, Agrees}
-use Rattle.locate.specs.Held.{seriesOf, stateAt, SolvedFor}
-use Rattle.locate.proofs.RunLaws.{series-at}
+use Rattle.entries.specs.Entries.{AllZero}
+use Rattle.key.specs.Work.{Squared}
+use Rattle.key.specs.Held.{seriesOf, stateAt, SolvedFor}
+use Rattle.key.proofs.RunLaws.{series-at}
+use Rattle.locate.specs.Work.{valueFrom, tried, zeros, Tried, Agrees}
 use Rattle.locate.proofs.TrialLaws.{value-zero, value-suc, zeros-member, member-zeros, zeros-ascending}
 
 -- two rows that agree at the even places, and whose odd places are squares of the places half as far, agree
@@ -227,17 +229,17 @@ module _ {m t l : ℕ} {sums sigma ps : List ℕ} (s : SolvedFor m t sums l sigm
     pub not-many : {count : ℕ} {places : List ℕ} → Tried m t sigma (l + 1) count places → t < count → ⊥
     not-many w k = omega (arith, w .most k, ap length zeros-are, u .few)
 
-    pub not-other : {count r : ℕ} {places : List ℕ} → Tried m t sigma (l + 1) count places → count ≤ t → Agrees m t (take count places) sums r → r < t → ⊥
-    not-other {count} {r} {places} w k c b = c .here b (ap (sumOver m (2 * r + 1)) (w .all-of k ∙ zeros-are) ∙ u .same r b)
+    pub not-other : {count : ℕ} {r : Bool} {places : List ℕ} → Tried m t sigma (l + 1) count places → count ≤ t → Agrees m t (take count places) sums r → r ≡ false → ⊥
+    not-other w k c e = c .no e (λ i h. ap (sumOver m (2 * i + 1)) (w .all-of k ∙ zeros-are) ∙ u .same i h)
 
 -- places whose sums agree are located
-pub located : {m t c count r : ℕ} {sums sigma places : List ℕ} → Tried m t sigma c count places → count ≤ t → t ≤ length places → Agrees m t (take count places) sums r → t ≤ r → Located m t sums (take count places)
-located {m} {t} {c} {count} {r} {sums} {sigma} {places} w h l g k =
+pub located : {m t c count : ℕ} {r : Bool} {sums sigma places : List ℕ} → Tried m t sigma c count places → count ≤ t → t ≤ length places → Agrees m t (take count places) sums r → r ≡ true → Located m t sums (take count places)
+located {m} {t} {c} {count} {r} {sums} {sigma} {places} w h l g e =
     record {
       ascending = rw (w .all-of h) (zeros-ascending m sigma c (nOf m));
       below = λ p q. zeros-member m sigma c (nOf m) p (rw (w .all-of h) at q) .0;
       few = omega (arith, length-take-le count places (omega arith));
-      same = λ i b. g .before i (omega arith);
+      same = g .yes e;
     }
 
 -- what the trial may read of sigma
@@ -245,11 +247,11 @@ pub solved-below : {m t l : ℕ} {sums sigma : List ℕ} → SolvedFor m t sums 
 solved-below {t = t} s h i k = rw (s .solved .short h .1 i (omega arith)) ((stateAt (s .solved .listed) (s .all) (2 * t) .σ i) .1)
 
 -- where all sums are 0 no place is wrong
-pub none-wrong : {m t r : ℕ} {sums : List ℕ} → Compared t (replicate 257 0) sums r → r ≡ t → Located m t sums []
-none-wrong {m} {t} {r} c z =
+pub none-wrong : {m t : ℕ} {r : Bool} {sums : List ℕ} → AllZero t sums r → r ≡ true → Located m t sums []
+none-wrong {m} c e =
     record {
       ascending = tt;
       below = λ p k. absurd (List·Memᴰ·not-nil k);
       few = omega arith;
-      same = λ i h. sumOver-nil m (2 * i + 1) ∙ sym (zeros-at 257 i) ∙ c .before i (omega arith);
+      same = λ i h. sumOver-nil m (2 * i + 1) ∙ sym (c .yes e i h);
     }

@@ -1,7 +1,3 @@
-pub mod FillLaws
-pub mod WalkLaws
-pub mod SumSteps
-pub mod MendLaws
+pub mod TermLaws
 pub mod TrialLaws
-pub mod RunLaws
 pub mod FindLaws

@@ -1,7 +1,7 @@
 -- The trial of the places: values term by term, and the list of the zeros.
 use mathlib.Core.Path.{_≡_, _∙_, refl, sym, ap, ap₂}
 use mathlib.Core.Logic.{_⊎_, inl, inr}
-use mathlib.Core.Bool.{cond}
+use mathlib.Core.Bool.{Bool, cond}
 use mathlib.Core.List.{List, [], _∷_, _++_, List·Memᴰ, List·Memᴰ·head, List·Memᴰ·tail, List·Memᴰ·not-nil, List·Memᴰ·append-cases, List·Memᴰ·eq-of-singleton, Memᴰ·append-left, Memᴰ·append-right}
 use Prim.Native.Nat.{ℕ, zero, suc, _+_, _-_, _^_, _≤_, _<_}
 use native.Mathlib.Numerals.{add-one}
@@ -19,8 +19,10 @@ use Rattle.field.specs.Power.{a, nOf, power}
 use Rattle.field.proofs.SumLaws.{sum-comm, sum-assoc}
 use Rattle.field.proofs.ProductLaws.{product-zero, product-assoc, product-over, one-product}
 use Rattle.field.proofs.PowerLaws.{power-zero, power-suc}
-use Rattle.locate.specs.Work.{Filled, nothing, placeSum, valueFrom, tried, plusTerm, zeros, NotedOne, Tried, Compared, Agrees}
-use Rattle.locate.proofs.FillLaws.{fill-from, fill-as, fill-after}
+use Rattle.entries.specs.Entries.{Filled, nothing, Same}
+use Rattle.entries.proofs.FillLaws.{fill-from, fill-as, fill-after}
+use Rattle.sums.specs.Rows.{placeSum}
+use Rattle.locate.specs.Work.{valueFrom, tried, plusTerm, zeros, NotedOne, Tried, Agrees}
 
 -- values
 
@@ -244,10 +246,9 @@ trying-done {m} {t} {c} {n} {i = i} {sigma} s is h = record { all-of = λ k. s .
     end = omega (arith, s .within)
 
 -- the sums of the places found, compared
-pub agrees : {m t r : ℕ} {places sums before own : List ℕ} → Filled (placeSum m places) t before own → Compared t own sums r → Agrees m t places sums r
+pub agrees : {m t : ℕ} {r : Bool} {places sums before own : List ℕ} → Filled (placeSum m places) t before own → Same t own sums r → Agrees m t places sums r
 agrees s u =
     record {
-      most = u .most;
-      before = λ i h. sym (s .holds i (omega (arith, u .most))) ∙ u .before i h;
-      here = λ h e. u .here h (s .holds _ h ∙ e);
+      yes = λ e i h. sym (s .holds i h) ∙ u .yes e i h;
+      no = λ e z. u .no e (λ i h. s .holds i h ∙ z i h);
     }

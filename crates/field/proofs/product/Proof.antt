@@ -2,30 +2,18 @@
 use borrow.Author.Needs.{needs}
 use mathlib.Core.Path.{_≡_, _∙_, sym, ap, ap₂}
 use mathlib.Core.List.{List}
-use mathlib.Core.Logic.{_≢_}
-use Prim.Native.Nat.{ℕ, _+_, _^_, _<_}
+use Prim.Native.Nat.{ℕ, _+_}
 use native.Mathlib.Omega.{arith}
 use lib.ListN.{getD}
 use Rattle.field.specs.Product.{_⊗⟨_⟩_}
-use Rattle.field.specs.Power.{a, nOf, power}
+use Rattle.field.specs.Power.{a}
 use Rattle.field.specs.Tables.{Tables}
 use Rattle.field.proofs.Range.{sizes}
 use Rattle.field.proofs.ProductLaws.{product-zero, zero-product}
 use Rattle.field.proofs.PowerLaws.{power-add}
-use Rattle.field.proofs.Order.{every-power}
+use Rattle.field.proofs.Walks.{Logarithm, logarithm}
 use Rattle.field.proofs.product.Statement.{statement}
 use Rattle.field.proofs.product.Tie as tie
-
--- the logarithm of x, as the table has it
-record Logarithm (m : ℕ) (logs : List ℕ) (x : ℕ) : Type 0 where
-  below : getD logs x 0 < nOf m
-  is : power m a (getD logs x 0) ≡ x
-
-logarithm : {m x : ℕ} {powers logs : List ℕ} → Tables m powers logs → x < 2 ^ m → x ≢ 0 → Logarithm m logs x
-logarithm {m} {x} {logs = logs} t h z =
-    let (i, b, e) = every-power (t .listed) x h z in
-    let l : getD logs x 0 ≡ i = ap (λ (y : ℕ). getD logs y 0) (sym e) ∙ t .logs-hold .holds i b in
-    record { below = rw l b; is = rw l e }
 
 multiplied : {m x y : ℕ} {powers logs : List ℕ} → Tables m powers logs → Logarithm m logs x → Logarithm m logs y
     → getD powers (getD logs x 0 + getD logs y 0) 0 ≡ x ⊗⟨ m ⟩ y

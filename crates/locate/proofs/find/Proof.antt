@@ -1,7 +1,7 @@
 -- Nothing is answered only where a located list would have been found, and what is found has the sums.
 use native.Mathlib.Omega.{arith}
 use borrow.Author.Needs.{needs}
-use Rattle.locate.proofs.FillLaws.{space-long}
+use Rattle.key.proofs.MendLaws.{space-long}
 use Rattle.locate.proofs.FindLaws.{not-passed, not-many, not-other, located, solved-below}
 use Rattle.locate.proofs.find.Statement.{statement}
 use Rattle.locate.proofs.find.Tie as tie
@@ -43,7 +43,7 @@ same-length-5 : tie.Need-same-length-5
 same-length-5 c = search needs
 
 returns-3 : tie.Need-returns-3
-returns-3 c = record { some = λ h. absurd (omega arith); none = λ h ps u. not-other (c .before .before .before .before .before .before .before .before .before .before .before .before .solve .ensures) u (c .before .before .before .before .before .before .before .before .before .if1 .left) (c .before .before .before .before .before .before .try-all .ensures) (c .before .before .before .if2 .left) (c .before .compare .ensures) (c .if3 .taken) }
+returns-3 c = record { some = λ h. located (c .before .before .before .before .before .before .try-all .ensures) h (omega (arith, c .before .before .before .before .before .before .before .before .before .before .before .before .before .before .before .before .before .before .before .pre .5, c .before .before .before .before .before .before .try-all .kept .1 .1 .1 .1 .1 .1 .0)) (c .before .compare .ensures) (c .if3 .taken); none = λ h. absurd (omega (arith, c .before .before .before .if2 .left)) }
 
 same-length-6 : tie.Need-same-length-6
 same-length-6 c = search needs
@@ -52,7 +52,7 @@ same-length-7 : tie.Need-same-length-7
 same-length-7 c = search needs
 
 returns-4 : tie.Need-returns-4
-returns-4 c = record { some = λ h. located (c .before .before .before .before .before .before .try-all .ensures) h (omega (arith, c .before .before .before .before .before .before .before .before .before .before .before .before .before .before .before .before .before .before .before .pre .5, c .before .before .before .before .before .before .try-all .kept .1 .1 .1 .1 .1 .1 .0)) (c .before .compare .ensures) (c .if3 .left); none = λ h. absurd (omega (arith, c .before .before .before .if2 .left)) }
+returns-4 c = record { some = λ h. absurd (omega arith); none = λ h ps u. not-other (c .before .before .before .before .before .before .before .before .before .before .before .before .solve .ensures) u (c .before .before .before .before .before .before .before .before .before .if1 .left) (c .before .before .before .before .before .before .try-all .ensures) (c .before .before .before .if2 .left) (c .before .compare .ensures) (c .if3 .left) }
 
 pub find-spec : {M : Type 1} → statement M
 find-spec =
@@ -67,10 +67,10 @@ find-spec =
     same-length-3
     returns-2
     compare-requires
-    add-result
     same-length-4
     same-length-5
     returns-3
+    add-result
     same-length-6
     same-length-7
     returns-4)

@@ -8,11 +8,11 @@ use Rattle.locate.proofs.locate.Tie as tie
 places-space-requires : tie.Need-places-space-requires
 places-space-requires c κs = search needs
 
-first-nonzero-requires : tie.Need-first-nonzero-requires
-first-nonzero-requires c κs = search needs
+all-zero-requires : tie.Need-all-zero-requires
+all-zero-requires c κs = search needs
 
 returns : tie.Need-returns
-returns c = record { tells = (omega arith, none-wrong (c .before .first-nonzero .ensures) (c .if1 .taken)) }
+returns c = record { tells = (omega arith, none-wrong (c .before .all-zero .ensures) (c .if1 .taken)) }
 
 space-requires : tie.Need-space-requires
 space-requires c κs = search needs
@@ -37,7 +37,7 @@ locate-spec =
     tie.close
     (tie.spec
     places-space-requires
-    first-nonzero-requires
+    all-zero-requires
     returns
     space-requires
     slice-aggregate-find

@@ -1,7 +1,7 @@
 -- A code word passes the second check.
 use borrow.Author.Needs.{needs}
-use mathlib.Core.Path.{_≡_, _∙_, refl, sym, ap}
-use mathlib.Core.Bool.{Bool, true, not, true≢false}
+use mathlib.Core.Path.{_≡_, _∙_, refl, sym}
+use mathlib.Core.Bool.{Bool, true, false, not}
 use mathlib.Core.List.{List}
 use Prim.Native.Nat.{ℕ}
 use native.Mathlib.Omega.{arith}
@@ -12,17 +12,18 @@ use borrow.Author.Needs.{needs}
 use Rattle.codec.proofs.decoding.put_checked.Statement.{statement}
 use Rattle.codec.proofs.decoding.put_checked.Tie as tie
 
-clash : (b : Bool) → b ≡ true → not b ≡ true → ⊥
-clash b e n = true≢false (sym n ∙ ap not e)
+denied : (b : Bool) → not b ≡ true → b ≡ false
+denied true n = sym n
+denied false n = refl
 
 copied : (word mended copy : List ℕ) → length word ≡ length mended → length copy ≡ length word → copy ≡ paste word 0 mended (length mended) → copy ≡ mended
 copied word mended copy l k e = sym (take-all (length mended) copy (omega arith)) ∙ copied-front word mended copy e
 
-sums-vanish-requires : tie.Need-sums-vanish-requires
-sums-vanish-requires c κs = search needs
+vanish-requires : tie.Need-vanish-requires
+vanish-requires c κs = search needs
 
 returns : tie.Need-returns
-returns c = absurd (clash _ (c .before .sums-vanish .ensures (λ i h. c .before .before .before .before .before .before .before .before .pre .2 .sums _ (omega arith) (omega arith))) (c .if1 .taken))
+returns c = absurd (c .before .vanish .ensures .no (denied _ (c .if1 .taken)) (λ i h. c .before .before .before .before .before .before .before .before .pre .2 .sums _ (omega arith) (omega arith)))
 
 copy-at-requires : tie.Need-copy-at-requires
 copy-at-requires c κs = search needs
@@ -45,7 +46,7 @@ pub put-checked-spec : {M : Type 1} → statement M
 put-checked-spec =
     tie.close
     (tie.spec
-    sums-vanish-requires
+    vanish-requires
     returns
     copy-at-requires
     put-list-requires

@@ -1,0 +1,25 @@
+-- Cleared, then copied into.
+use borrow.Author.Needs.{needs}
+use mathlib.Core.Path.{_∙_, ap}
+use mathlib.Core.List.{List}
+use Prim.Native.Nat.{ℕ}
+use lib.ListN.{length}
+use lib.Seq.{paste}
+use borrow.Author.Needs.{needs}
+use Rattle.parity.proofs.place_message.Statement.{statement}
+use Rattle.parity.proofs.place_message.Tie as tie
+
+clear-requires : tie.Need-clear-requires
+clear-requires c κs = search needs
+
+copy-at-requires : tie.Need-copy-at-requires
+copy-at-requires c κs = search needs
+
+same-length : tie.Need-same-length
+same-length c = search needs
+
+returns : tie.Need-returns
+returns c = c .before .before .copy-at .ensures ∙ ap (λ (l : List ℕ). paste l (c .before .before .before .before .before .before .before .before .before .before .args .d) (c .before .before .before .before .before .before .before .before .before .before .args .message .now) (length (c .before .before .before .before .before .before .before .before .before .before .args .message .now))) (c .before .before .before .before .before .before .clear .ensures)
+
+pub place-message-spec : {M : Type 1} → statement M
+place-message-spec = tie.close (tie.spec clear-requires copy-at-requires same-length returns)

@@ -1,0 +1,33 @@
+-- Rows of odd sums: entry i stands for S_(2i+1).
+use mathlib.Core.Path.{_≡_}
+use mathlib.Core.Bool.{Bool, true, false}
+use mathlib.Core.List.{List}
+use Prim.Native.Nat.{ℕ, _+_, _*_, _<_}
+use lib.ListN.{length, getD}
+use Rattle.field.specs.Sum.{_⊕_}
+use Rattle.field.specs.Power.{power}
+use Rattle.codes.specs.Sums.{sumOf, sumOver}
+
+-- x^(2i+1) is added
+abbrev pub plusPower : ℕ → ℕ → List ℕ → ℕ → ℕ
+plusPower m x before i = getD before i 0 ⊕ power m x (2 * i + 1)
+
+abbrev pub plusBit : ℕ → ℕ → ℕ → List ℕ → ℕ → ℕ
+plusBit m bit x before i = getD before i 0 ⊕ bit * power m x (2 * i + 1)
+
+-- S_(2i+1) of a word, and of a list of places
+abbrev pub wordSum : ℕ → List ℕ → ℕ → ℕ
+wordSum m word i = sumOf m (2 * i + 1) word
+
+abbrev pub placeSum : ℕ → List ℕ → ℕ → ℕ
+placeSum m places i = sumOver m (2 * i + 1) places
+
+-- the first t entries are the odd sums of a word
+pub record OddSums (m t : ℕ) (word sums : List ℕ) : Type 0 where
+  pub long : 255 ≡ length sums
+  pub holds : (i : ℕ) → i < t → getD sums i 0 ≡ sumOf m (2 * i + 1) word
+
+-- the first t odd sums of a word are all 0, or not all of them
+pub record Vanish (m t : ℕ) (word : List ℕ) (r : Bool) : Type 0 where
+  pub yes : r ≡ true → (i : ℕ) → i < t → sumOf m (2 * i + 1) word ≡ 0
+  pub no : r ≡ false → ((i : ℕ) → i < t → sumOf m (2 * i + 1) word ≡ 0) → ⊥
