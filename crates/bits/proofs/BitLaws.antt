@@ -153,6 +153,10 @@ added-twice (x ∷ xs) [] b c = refl
 added-twice (x ∷ xs) (y ∷ ys) b c =
     ap₂ (λ z zs. z ∷ zs) (xor-cancel-bit (bits-head b) (bits-head c)) (added-twice xs ys (bits-tail b) (bits-tail c))
 
+-- what leads from xs to the sum of both is ys
+pub added-back : (xs ys : List ℕ) → length xs ≡ length ys → AreBits xs → AreBits ys → added xs (added xs ys) ≡ ys
+added-back xs ys h b c = added-comm xs (added xs ys) (sym (length-added xs ys)) ∙ ap (λ zs. added zs xs) (added-comm xs ys h) ∙ added-twice ys xs c b
+
 -- addedAt
 
 pub addedAt-zero : (xs ys : List ℕ) → addedAt xs 0 ys ≡ added xs ys

@@ -1,12 +1,15 @@
 -- What one turn of each loop does to the list that it works on.
-use mathlib.Core.Path.{_≡_, _∙_, sym, ap}
+use mathlib.Core.Path.{_≡_, _∙_, sym, ap, subst}
 use mathlib.Core.List.{List, [], _∷_, _++_}
-use Prim.Native.Nat.{ℕ, zero, suc, _+_, _≤_, _<_}
+use Prim.Native.Nat.{ℕ, zero, suc, _+_, _-_, _≤_, _<_}
 use native.Mathlib.Nat.{zero-add, suc-add, not-suc-le-zero, le-of-suc-le-suc}
+use native.Mathlib.Decide.{decLt}
 use native.Mathlib.Omega.{arith}
+use borrow.Author.Tests.{lt-ltb, le-ltb}
 use lib.Bits.{bitXor}
+use lib.Dec.{ltb}
 use lib.ListN.{length, getD, set, take, drop, List·getD-append}
-use lib.Seq.{paste, length-paste-head, getD-append-add, take-length, take-append-seam, length-take-le}
+use lib.Seq.{paste, length-paste-head, drop-paste, getD-take, getD-drop, getD-append-add, take-length, take-append-seam, length-take-le}
 use Rattle.bits.specs.Bits.{AreBits, added, addedAt, flip, flipped}
 use Rattle.bits.proofs.BitLaws.{bits-append, bits-take, bits-drop, added-none, added-cons, addedAt-zero, addedAt-cons, addedAt-nil, addedAt-after, flipped-nil, flipped-cons}
 
@@ -58,5 +61,29 @@ paste-at d at s i h k =
     ∙ getD-append-add (take at d) (take (length s) s) i 0
     ∙ ap (λ (l : List ℕ). getD l i 0) (take-length s)
 
+-- and at the places before and after them
+pub paste-before : (d : List ℕ) (at : ℕ) (s : List ℕ) (i : ℕ) → at ≤ length d → i < at → getD (paste d at s (length s)) i 0 ≡ getD d i 0
+paste-before d at s i h k =
+    List·getD-append (take at d ++ take (length s) s) (drop (at + length s) d) 0 i (omega (arith, length-paste-head d at s (length s) h (omega arith)))
+    ∙ List·getD-append (take at d) (take (length s) s) 0 i (omega (arith, length-take-le at d h))
+    ∙ getD-take at d i 0 k
+
+pub paste-after : (d : List ℕ) (at : ℕ) (s : List ℕ) (i : ℕ) → at ≤ length d → at + length s ≤ i → getD (paste d at s (length s)) i 0 ≡ getD d i 0
+paste-after d at s i h k =
+    let e : at + length s + (i - (at + length s)) ≡ i = omega arith in
+    let same : getD (paste d at s (length s)) (at + length s + (i - (at + length s))) 0 ≡ getD d (at + length s + (i - (at + length s))) 0 =
+    sym (getD-drop (at + length s) (paste d at s (length s)) (i - (at + length s)) 0)
+    ∙ ap (λ (l : List ℕ). getD l (i - (at + length s)) 0) (drop-paste d at s (length s) h (omega arith))
+    ∙ getD-drop (at + length s) d (i - (at + length s)) 0 in
+    subst (λ (p : ℕ). getD (paste d at s (length s)) p 0 ≡ getD d p 0) e same
+
 pub bits-paste : {d s : List ℕ} (at : ℕ) → AreBits d → AreBits s → AreBits (paste d at s (length s))
 bits-paste {d} {s} at b c = bits-append (bits-append (bits-take at b) (bits-take (length s) c)) (bits-drop (at + length s) b)
+
+-- to run past the end is to need more than the room that is left
+pub room-past : (start long end : ℕ) → start ≤ end → ltb (end - start) long ≡ ltb end (start + long)
+room-past start long end h = pick (decLt (end - start) long)
+  where
+    pick : Dec (end - start < long) → ltb (end - start) long ≡ ltb end (start + long)
+    pick (yes l) = lt-ltb (end - start) long l ∙ sym (lt-ltb end (start + long) (omega arith))
+    pick (no n) = le-ltb (end - start) long (omega arith) ∙ sym (le-ltb end (start + long) (omega arith))

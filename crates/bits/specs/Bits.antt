@@ -1,7 +1,7 @@
 -- Bits lent one to a byte.
 use mathlib.Core.Bool.{Bool, cond}
 use mathlib.Core.List.{List, [], _∷_, map}
-use Prim.Native.Nat.{ℕ, zero, suc, _-_, _*_, _≤_}
+use Prim.Native.Nat.{ℕ, zero, suc, _+_, _-_, _*_, _≤_}
 use lib.Bits.{bitXor}
 use lib.Dec.{leb, ltb}
 use lib.ListN.{length, getD, set, replicate}
@@ -18,6 +18,10 @@ firstAbove (x ∷ xs) = cond (leb x 1) (suc (firstAbove xs)) 0
 -- one of a lent slice's places holds more than 1
 abbrev pub hasBadBit : List ℕ → Bool
 hasBadBit xs = ltb (firstAbove xs) (length xs)
+
+-- so many places from `start` on run past the end; these are plain numbers, so nothing wraps
+abbrev pub runsPast : ℕ → ℕ → ℕ → Bool
+runsPast start long end = ltb end (start + long)
 
 -- ys added into xs from its first place on: exclusive-or, place by place
 unfoldable pub added : List ℕ → List ℕ → List ℕ

@@ -1,11 +1,11 @@
-// Bits lent one to a byte: looking for one that is none, adding, copying, clearing, turning over.
+// Bits lent one to a byte: looking for one that is none, adding, copying, clearing, turning over; whether a stretch ends in time.
 
 ghost use mathlib.Core.Path.{_≡_};
 ghost use mathlib.Core.List.{List·Memᴰ};
 ghost use Prim.Native.Nat.{ℕ, _+_, _≤_, _<_};
 ghost use lib.ListN.{length, take, replicate};
 ghost use lib.Seq.{paste};
-ghost use Rattle.bits.specs.Bits.{AreBits, firstAbove, addedAt, flipped};
+ghost use Rattle.bits.specs.Bits.{AreBits, firstAbove, runsPast, addedAt, flipped};
 
 // The first place that holds more than 1, or the length where there is none.
 pub fn first_above_one(s: &[u8]) -> usize
@@ -66,4 +66,15 @@ pub fn flip_all(dst: &mut [u8], places: &[u16], count: usize)
         dst[p] = 1 - dst[p];
         i += 1;
     }
+}
+
+// Whether so many places from `start` on run past the end. No sum of the two is made: it could wrap.
+pub fn runs_past(start: usize, long: usize, end: usize) -> bool
+    ensures { λ r. ⌜ r ≡ runsPast start long end ⌝ }
+{
+    if end < start {
+        return true;
+    }
+    let room = end - start;
+    room < long
 }

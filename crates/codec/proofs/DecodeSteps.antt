@@ -30,8 +30,8 @@ use Rattle.sums.specs.Rows.{OddSums}
 use Rattle.codec.specs.Work.{Ready, WrongPlaces, PutDown}
 use Rattle.codec.proofs.DecodeLaws.{mends, located-word, nothing-near}
 
--- a refusal is no mended word
-refusal-not : (r : Refusal) → numberOf r ≡ 0 → ⊥
+-- no refusal has the number 0
+pub refusal-not : (r : Refusal) → numberOf r ≡ 0 → ⊥
 refusal-not r z = omega (arith, number-positive r)
 
 pub finds-nothing : {m t : ℕ} {received word list : List ℕ} → Far m t received → Finds m t received (Refused NothingNear) word list

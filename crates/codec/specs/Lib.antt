@@ -1,4 +1,5 @@
 pub mod Describe
 pub mod Encode
 pub mod Decode
+pub mod Edit
 pub mod Work

@@ -1,4 +1,5 @@
 pub mod OneOutcome
 pub mod Shown
 pub mod Near
+pub mod EditOutcome
 pub mod CardOutcome

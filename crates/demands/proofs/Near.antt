@@ -54,7 +54,7 @@ module _ {m t : ℕ} (L : Listed m) {received : List ℕ} (B : AreBits received)
       (k, e, p .lists ∙ ap₂ (λ (c : List ℕ) (x : ℕ). differences received c ++ replicate (t - x) 0) e k ∙ sym (q .lists))
 
 -- a check that has not refused, and the later ones
-passed : (b : Bool) (n later : ℕ) → refuseIf b (suc n) later ≡ 0 → (b ≡ false) × (later ≡ 0)
+pub passed : (b : Bool) (n later : ℕ) → refuseIf b (suc n) later ≡ 0 → (b ≡ false) × (later ≡ 0)
 passed true n later z = absurd (omega arith)
 passed false n later z = (refl, z)
 

@@ -1,8 +1,9 @@
--- What adding the parity leaves in the word.
+-- What adding the parity leaves in the word, and what the change of a message is.
 use mathlib.Core.Path.{_≡_}
 use mathlib.Core.List.{List}
-use Prim.Native.Nat.{ℕ, _≤_}
-use lib.ListN.{getD}
+use Prim.Native.Nat.{ℕ, _+_, _≤_, _<_}
+use lib.Bits.{bitXor}
+use lib.ListN.{length, getD}
 use Rattle.bits.specs.Bits.{AreBits}
 use Rattle.field.specs.Product.{Listed}
 use Rattle.codes.specs.Sums.{sumOf}
@@ -12,3 +13,11 @@ pub record WithParity (d : ℕ) (g before after : List ℕ) : Type 0 where
   pub bits : AreBits after
   pub above : (i : ℕ) → d ≤ i → getD after i 0 ≡ getD before i 0
   pub sums : {m : ℕ} → Listed m → (j : ℕ) → sumOf m j g ≡ 0 → sumOf m j after ≡ 0
+
+-- the change of a message at the front of room for any word: from `start` on the stretch and the old bits, which stand in the word from place `at` on, added; zeros elsewhere
+pub record MessageChange (word : List ℕ) (at start : ℕ) (stretch change : List ℕ) : Type 0 where
+  pub long : 1024 ≡ length change
+  pub bits : AreBits change
+  pub within : (i : ℕ) → i < length stretch → getD change (start + i) 0 ≡ bitXor (getD stretch i 0) (getD word (at + i) 0)
+  pub below : (i : ℕ) → i < start → getD change i 0 ≡ 0
+  pub above : (i : ℕ) → start + length stretch ≤ i → getD change i 0 ≡ 0

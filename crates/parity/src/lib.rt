@@ -1,14 +1,14 @@
-// The one code word that carries a message in its top places: the message put there, and its parity below.
+// The one code word that carries a message in its top places: the message put there, and its parity below. Also the change of a message.
 
 ghost use mathlib.Core.Path.{_≡_};
 ghost use Prim.Native.Nat.{_+_, _-_, _≤_};
-ghost use lib.ListN.{length, getD, replicate};
+ghost use lib.ListN.{length, getD, take, replicate};
 ghost use lib.Seq.{paste};
 ghost use Rattle.bits.specs.Bits.{AreBits};
 ghost use Rattle.field.specs.Power.{nOf};
 ghost use Rattle.codes.specs.Table.{RowOf, ks, ts};
 ghost use Rattle.codes.specs.Encoding.{Encoding};
-ghost use Rattle.parity.specs.Work.{WithParity};
+ghost use Rattle.parity.specs.Work.{WithParity, MessageChange};
 
 // The code word of a row of m that carries the message, d being n - k.
 pub fn fill_word(m: usize, row: usize, d: usize, message: &[u8], word: &mut [u8])
@@ -40,4 +40,27 @@ fn add_parity(word: &mut [u8], g: &[u8], d: usize)
     bits::copy_at(&mut space, 0, word);
     codes::reduce(&mut space[..n], g, d);
     bits::add_at(word, 0, &space[..d]);
+}
+
+// The code word of a row of m that carries the message, d being n - k, at the front of room for any word.
+pub fn code_word(m: usize, row: usize, d: usize, message: &[u8]) -> [u8; 1024]
+    requires { ⌜ RowOf m row × (d ≡ nOf m - getD ks row 0) × AreBits (now message) × (length (now message) ≡ getD ks row 0) ⌝ }
+    ensures { λ r. ⌜ Encoding m (getD ts row 0) (getD ks row 0) (now (message .entry)) (take (nOf m) r) × (1024 ≡ length r) ⌝ }
+{
+    let n = d + message.len();
+    let mut space = codes::word_space();
+    fill_word(m, row, d, message, &mut space[..n]);
+    space
+}
+
+// The change of the message: from `start` on the stretch and the old bits, which stand in the word from place `at` on, added; zeros elsewhere.
+pub fn message_change(word: &[u8], at: usize, start: usize, stretch: &[u8]) -> [u8; 1024]
+    requires { ⌜ (at + length (now stretch) ≤ length (now word)) × (start + length (now stretch) ≤ 1024) × (length (now word) ≤ 1024) × AreBits (now word) × AreBits (now stretch) ⌝ }
+    ensures { λ r. ⌜ MessageChange (now (word .entry)) at start (now (stretch .entry)) r ⌝ }
+{
+    let end = at + stretch.len();
+    let mut change = codes::word_space();
+    bits::add_at(&mut change, start, stretch);
+    bits::add_at(&mut change, start, &word[at..end]);
+    change
 }

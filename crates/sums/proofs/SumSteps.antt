@@ -5,10 +5,10 @@ use Prim.Native.Nat.{ℕ, _+_, _*_, _%_, _^_, _≤_, _<_}
 use native.Mathlib.Numerals.{add-one}
 use native.Mathlib.Nat.{zero-mul, one-mul}
 use native.Mathlib.Omega.{arith}
-use lib.ListN.{length, getD, take}
+use lib.ListN.{length, getD, take, replicate, length-replicate}
 use lib.Seq.{take-suc, length-take-le, take-all}
 use Rattle.bits.specs.Bits.{AreBits}
-use Rattle.bits.proofs.BitLaws.{bit-cases, bits-cons, bits-replicate, bits-take}
+use Rattle.bits.proofs.BitLaws.{bit-cases, bits-cons, bits-replicate, bits-take, zeros-at}
 use Rattle.field.specs.Sum.{_⊕_}
 use Rattle.field.specs.Product.{Listed, _⊗⟨_⟩_}
 use Rattle.field.specs.Power.{a, nOf, power}
@@ -22,7 +22,7 @@ use Rattle.entries.specs.Entries.{Filled, nothing}
 use Rattle.entries.proofs.FillLaws.{fill-from, fill-as, fill-after}
 use Rattle.field.specs.Multiples.{plusMultiple}
 use Rattle.field.proofs.Walks.{around-below, around-power}
-use Rattle.sums.specs.Rows.{plusPower, plusBit, wordSum, placeSum}
+use Rattle.sums.specs.Rows.{plusPower, plusBit, wordSum, placeSum, OddSums}
 
 pub below-power : {m s : ℕ} (p : ℕ) → Listed m → s ≡ power m a p → s < 2 ^ m
 below-power p L e = rw e (power-bound L a p)
@@ -139,3 +139,16 @@ placing-next {m} {t} {x} {i} {places} {before} {middle} L s h e u =
 
 pub placing-done : {m t i count : ℕ} {places first before after : List ℕ} → Filled nothing t first before → Placing m t places before after i → i ≡ count → Filled (placeSum m (take count places)) t first after
 placing-done {m} {places = places} c s e = fill-after c (fill-as (s .filled) (λ j k. ap (λ n. sumOver m (2 * j + 1) (take n places)) e))
+
+-- the length of the room that space gives
+pub room-long : {xs : List ℕ} → xs ≡ replicate 255 0 → length xs ≡ 255
+room-long e = ap length e ∙ length-replicate {A = ℕ} 255 0
+
+-- the sums of a word in room that was clear
+pub sums-in-room : {m t : ℕ} {word room sums : List ℕ} → room ≡ replicate 255 0 → Filled (wordSum m word) t room sums → OddSums m t word sums
+sums-in-room {room = room} e s =
+    record {
+      long = sym (s .same ∙ room-long e);
+      holds = s .holds;
+      rest = λ i h. s .rest i h ∙ ap (λ (xs : List ℕ). getD xs i 0) e ∙ zeros-at 255 i;
+    }

@@ -2,7 +2,7 @@
 use mathlib.Core.Path.{_≡_}
 use mathlib.Core.Bool.{Bool, true, false}
 use mathlib.Core.List.{List}
-use Prim.Native.Nat.{ℕ, _+_, _*_, _<_}
+use Prim.Native.Nat.{ℕ, _+_, _*_, _≤_, _<_}
 use lib.ListN.{length, getD}
 use Rattle.field.specs.Sum.{_⊕_}
 use Rattle.field.specs.Power.{power}
@@ -22,10 +22,11 @@ wordSum m word i = sumOf m (2 * i + 1) word
 abbrev pub placeSum : ℕ → List ℕ → ℕ → ℕ
 placeSum m places i = sumOver m (2 * i + 1) places
 
--- the first t entries are the odd sums of a word
+-- 255 entries: the first t are the odd sums of a word, the others 0
 pub record OddSums (m t : ℕ) (word sums : List ℕ) : Type 0 where
   pub long : 255 ≡ length sums
   pub holds : (i : ℕ) → i < t → getD sums i 0 ≡ sumOf m (2 * i + 1) word
+  pub rest : (i : ℕ) → t ≤ i → getD sums i 0 ≡ 0
 
 -- the first t odd sums of a word are all 0, or not all of them
 pub record Vanish (m t : ℕ) (word : List ℕ) (r : Bool) : Type 0 where

@@ -2,7 +2,7 @@
 
 ghost use mathlib.Core.Path.{_≡_};
 ghost use Prim.Native.Nat.{_≤_, _<_};
-ghost use lib.ListN.{length, take};
+ghost use lib.ListN.{length, take, replicate};
 ghost use Rattle.bits.specs.Bits.{AreBits};
 ghost use Rattle.entries.specs.Entries.{Filled};
 ghost use Rattle.field.specs.Power.{a, nOf, power};
@@ -73,12 +73,12 @@ pub fn place_sums(
 
 // Room for the odd sums of every code, t at most 255.
 pub fn space() -> [u16; 255]
-    ensures { λ r. ⌜ 255 ≡ length r ⌝ }
+    ensures { λ r. ⌜ r ≡ replicate 255 0 ⌝ }
 {
     [0; 255]
 }
 
-// S_1, S_3, .. S_(2t-1) of a word, in room of their own.
+// S_1, S_3, .. S_(2t-1) of a word, in room of their own, then zeros.
 pub fn odd_sums(m: usize, t: usize, powers: &[u16], logs: &[u16], word: &[u8]) -> [u16; 255]
     requires { ⌜ Tables m (now powers) (now logs) × AreBits (now word) × (t ≤ 255) ⌝ }
     ensures { λ r. ⌜ OddSums m t (now (word .entry)) r ⌝ }
