@@ -2,4 +2,6 @@ pub mod OneOutcome
 pub mod Shown
 pub mod Near
 pub mod EditOutcome
+pub mod NoSet
+pub mod Cases
 pub mod CardOutcome

@@ -1,14 +1,13 @@
 -- Within t of what came in there is at most one code word, so Decode leaves one outcome, and a sent word with at most t flips comes back.
 use mathlib.Core.Path.{_≡_, _∙_, refl, sym, ap, ap₂, subst}
-use mathlib.Core.Bool.{Bool, true, false, not, true≢false}
+use mathlib.Core.Bool.{Bool, true, false}
 use mathlib.Core.List.{List, [], _∷_, _++_, List·Memᴰ, List·Memᴰ·not-nil}
 use mathlib.Core.Logic.{_≢_}
 use Prim.Native.Nat.{ℕ, zero, suc, _+_, _-_, _*_, _≤_, _<_}
-use native.Mathlib.Decide.{ℕ-discrete, decLt}
+use native.Mathlib.Decide.{ℕ-discrete}
 use native.Mathlib.Nat.{sub-zero}
 use native.Mathlib.Omega.{arith}
-use borrow.Author.Tests.{ne-eqb, lt-ltb}
-use lib.Dec.{eqb, ltb}
+use borrow.Author.Tests.{eqb-true, not-false, ltb-false}
 use lib.ListN.{length, getD, replicate}
 use Rattle.sheet.specs.Number.{refuseIf}
 use Rattle.sheet.proofs.NumberLaws.{number-positive, number-tells}
@@ -28,15 +27,20 @@ use Rattle.codec.specs.Decode.{Decodes, Mends, decodeRefusal, decodedNumber, de
 use Rattle.codec.proofs.DecodeLaws.{near-located}
 
 -- the first n values in a list
-valuesOf : (ℕ → ℕ) → ℕ → List ℕ
+unfoldable pub valuesOf : (ℕ → ℕ) → ℕ → List ℕ
 valuesOf f zero = []
 valuesOf f (suc n) = f 0 ∷ valuesOf (λ i. f (suc i)) n
 
-values-at : (f : ℕ → ℕ) (n i : ℕ) → i < n → getD (valuesOf f n) i 0 ≡ f i
+pub values-at : (f : ℕ → ℕ) (n i : ℕ) → i < n → getD (valuesOf f n) i 0 ≡ f i
 unfolding valuesOf
 values-at f zero i h = absurd (omega arith)
 values-at f (suc n) zero h = refl
 values-at f (suc n) (suc i) h = values-at (λ j. f (suc j)) n i (omega arith)
+
+pub values-long : (f : ℕ → ℕ) (n : ℕ) → length (valuesOf f n) ≡ n
+unfolding valuesOf
+values-long f zero = refl
+values-long f (suc n) = ap suc (values-long (λ j. f (suc j)) n)
 
 -- what came in: n bits
 module _ {m t : ℕ} (L : Listed m) {received : List ℕ} (B : AreBits received) (long : length received ≡ nOf m) where
@@ -58,20 +62,6 @@ pub passed : (b : Bool) (n later : ℕ) → refuseIf b (suc n) later ≡ 0 → (
 passed true n later z = absurd (omega arith)
 passed false n later z = (refl, z)
 
-same-of : (x y : ℕ) → not (eqb x y) ≡ false → x ≡ y
-same-of x y e = pick (ℕ-discrete x y)
-  where
-    pick : Dec (x ≡ y) → x ≡ y
-    pick (yes p) = p
-    pick (no n) = absurd (true≢false (sym (ap not (ne-eqb x y n)) ∙ e))
-
-le-of : (x y : ℕ) → ltb x y ≡ false → y ≤ x
-le-of x y e = pick (decLt x y)
-  where
-    pick : Dec (x < y) → y ≤ x
-    pick (yes h) = absurd (true≢false (sym (lt-ltb x y h) ∙ e))
-    pick (no n) = omega arith
-
 pub decode-ready : (m t : ℕ) (received word list : List ℕ) → decodeRefusal m t received word list ≡ 0 → Ready m t received word list
 unfolding decodeRefusal
 decode-ready m t received word list z =
@@ -83,10 +73,10 @@ decode-ready m t received word list z =
     let e = passed _ 4 _ (d .1) in
     record {
       accepted = A;
-      received-long = same-of _ _ (a .0);
-      received-bits = all-bits received refl (le-of _ _ (e .0));
-      word-long = same-of _ _ (b .0);
-      list-long = same-of _ _ (d .0);
+      received-long = eqb-true _ _ (not-false _ (a .0));
+      received-bits = all-bits received refl (ltb-false _ _ (e .0));
+      word-long = eqb-true _ _ (not-false _ (b .0));
+      list-long = eqb-true _ _ (not-false _ (d .0));
     }
 
 pub decoded-tells : (x y : Decoded) → decodedNumber x ≡ decodedNumber y → decodedCount x ≡ decodedCount y → x ≡ y
@@ -96,7 +86,7 @@ decoded-tells (Refused r) (Mended n) e p = absurd (omega (arith, number-positive
 decoded-tells (Refused r) (Refused s) e p = ap Refused (number-tells e)
 
 -- a refusal gives 0 beside its number
-refused-count : (x : Decoded) → decodedNumber x ≢ 0 → decodedCount x ≡ 0
+pub refused-count : (x : Decoded) → decodedNumber x ≢ 0 → decodedCount x ≡ 0
 refused-count (Mended n) h = absurd (h refl)
 refused-count (Refused r) h = refl
 
@@ -130,11 +120,23 @@ module _ {m t : ℕ} {received lentWord lentList : List ℕ} {x y : Decoded} {wo
       pick (yes z) = found-alike z (ℕ-discrete (decodedNumber x) 0) (ℕ-discrete (decodedNumber y) 0)
       pick (no n) = refused-alike (λ z. n (sym (p .checked n) ∙ z)) (p .checked n ∙ sym (q .checked n))
 
+-- a word that Decode may mend to is what it mends to
+pub mended-is : {m t count : ℕ} {received c cs lentWord lentList word list : List ℕ} {x : Decoded} → Mends m t received c cs count
+    → decodeRefusal m t received lentWord lentList ≡ 0 → Decodes m t received lentWord lentList x word list → (x ≡ Mended count) × (word ≡ c) × (list ≡ cs)
+mended-is {m} {t} {count} {received} {c} {cs} {lentWord} {lentList} {word} {list} {x} M z p = pick (ℕ-discrete (decodedNumber x) 0)
+  where
+    pick : Dec (decodedNumber x ≡ 0) → (x ≡ Mended count) × (word ≡ c) × (list ≡ cs)
+    pick (yes a) =
+        let R = decode-ready m t received lentWord lentList z in
+        let s = mends-one (R .accepted .listed) (R .received-bits) (R .received-long) (p .found z .mended a) M in
+        (decoded-tells x (Mended count) a (s .0), s .1, s .2)
+    pick (no n) = absurd (p .found z .far n .1 c (M .code-word) (omega (arith, M .counts, M .within)))
+
 -- a sent word with at most t flips comes back as it was sent, with exactly the flipped places
 pub flips-mended : {m t : ℕ} {c ps lentWord lentList word list : List ℕ} {x : Decoded} → CodeWord m t c → Ascending ps → ((p : ℕ) → List·Memᴰ p ps → p < nOf m) → length ps ≤ t
     → decodeRefusal m t (flipped c ps) lentWord lentList ≡ 0 → Decodes m t (flipped c ps) lentWord lentList x word list
     → (x ≡ Mended (length ps)) × (word ≡ c) × (list ≡ ps ++ replicate (t - length ps) 0)
-flips-mended {m} {t} {c} {ps} {lentWord} {lentList} {word} {list} {x} C A below few z p = pick (ℕ-discrete (decodedNumber x) 0)
+flips-mended {m} {t} {c} {ps} C A below few z p = mended-is sent z p
   where
     within : (q : ℕ) → List·Memᴰ q ps → q < length c
     within q k = omega (arith, below q k, C .long)
@@ -147,13 +149,6 @@ flips-mended {m} {t} {c} {ps} {lentWord} {lentList} {word} {list} {x} C A below 
 
     sent : Mends m t (flipped c ps) c (ps ++ replicate (t - length ps) 0) (length ps)
     sent = record { code-word = C; counts = count; within = few; lists = ap (λ (qs : List ℕ). qs ++ replicate (t - length ps) 0) (sym places) }
-
-    pick : Dec (decodedNumber x ≡ 0) → (x ≡ Mended (length ps)) × (word ≡ c) × (list ≡ ps ++ replicate (t - length ps) 0)
-    pick (yes a) =
-        let R = decode-ready m t (flipped c ps) lentWord lentList z in
-        let s = mends-one (R .accepted .listed) (R .received-bits) (R .received-long) (p .found z .mended a) sent in
-        (decoded-tells x (Mended (length ps)) a (s .0), s .1, s .2)
-    pick (no n) = absurd (p .found z .far n .1 c C (omega (arith, count)))
 
 -- a code word has no wrong place
 pub word-unchanged : {m t : ℕ} {c lentWord lentList word list : List ℕ} {x : Decoded} → CodeWord m t c → decodeRefusal m t c lentWord lentList ≡ 0

@@ -43,7 +43,7 @@ describe-listed : (m t : ℕ) (lent : List ℕ) → describeRefusal m t lent ≡
 unfolding describeRefusal
 describe-listed m t lent z = code-listed m t _ z
 
-encode-listed : (m t : ℕ) (message lent : List ℕ) → encodeRefusal m t message lent ≡ 0 → ListedCode m (kOf m t) t
+pub encode-listed : (m t : ℕ) (message lent : List ℕ) → encodeRefusal m t message lent ≡ 0 → ListedCode m (kOf m t) t
 unfolding encodeRefusal
 encode-listed m t message lent z = code-listed m t _ z
 

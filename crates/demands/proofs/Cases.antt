@@ -1,0 +1,250 @@
+-- Cases worked out by hand, in a single table, each proved of every outcome that the promises allow. A set stands for the word that holds 1 at its places.
+use mathlib.Core.Path.{_≡_, _∙_, refl, sym, ap, ap₂, subst}
+use mathlib.Core.Bool.{Bool, true, false}
+use mathlib.Core.List.{List, [], _∷_, _++_, List·Memᴰ, List·Memᴰ·head, List·Memᴰ·tail, List·Memᴰ·not-nil}
+use Prim.Native.Nat.{ℕ, _+_, _-_, _*_, _<_}
+use native.Mathlib.Decide.{ℕ-discrete}
+use native.Mathlib.Omega.{arith}
+use lib.Dec.{T, eqb, leb, eqb→eq, leb→le}
+use lib.ListN.{length, getD, replicate, length-replicate}
+use Rattle.sheet.specs.declared.Refusal.the-variants.{NothingNear}
+use Rattle.bits.specs.Bits.{AreBits, firstAbove, flip, flipped}
+use Rattle.bits.specs.Differences.{differences, differencesFrom}
+use Rattle.bits.proofs.BitLaws.{length-flipped, bits-flipped, bits-replicate}
+use Rattle.bits.proofs.DistanceLaws.{distance-length}
+use Rattle.field.specs.Sum.{_⊕_}
+use Rattle.field.specs.Product.{Listed, polynomials, polynomial, digits, horner, carryless, shifted, remainder, _⊗⟨_⟩_}
+use Rattle.field.specs.Power.{nOf, power}
+use Rattle.field.proofs.Tests.{both, both-left, both-right, all, All, done, also, all-passed, passes, passed-at}
+use Rattle.codes.specs.Table.{first, firsts, ks, ts}
+use Rattle.codes.specs.Look.{rowFrom, rowOf, isListed, kOf}
+use Rattle.codes.specs.Sums.{CodeWord, sumFrom, sumOf}
+use Rattle.codes.specs.Encoding.{Encoding}
+use Rattle.codes.proofs.SumLaws.{odd-sums}
+use Rattle.codec.specs.declared.encoding.Encoded.{Encoded}
+use Rattle.codec.specs.declared.encoding.Encoded.the-variants.{Done}
+use Rattle.codec.specs.declared.decoding.Decoded.{Decoded}
+use Rattle.codec.specs.declared.decoding.Decoded.the-variants.{Mended, Refused}
+use Rattle.codec.specs.Encode.{Encodes, encodeRefusal}
+use Rattle.codec.specs.Work.{Ready}
+use Rattle.codec.specs.Decode.{Decodes, decodeRefusal, decodedNumber}
+use Rattle.codec.proofs.DecodeLaws.{near-located}
+use Rattle.demands.proofs.OneOutcome.{encoded-tells, encode-listed, encoding-one}
+use Rattle.demands.proofs.Near.{valuesOf, values-at, values-long, decode-ready, decoded-tells, refused-count, mended-is}
+use Rattle.demands.proofs.NoSet.{zeroes, plusPlace, noSet, nothing-located}
+
+pub data Case : Type 0 where
+  -- m, t, a message, the word that is sent
+  sent : ℕ → ℕ → List ℕ → List ℕ → Case
+  -- m, t, what came in, the list of the wrong places, the mended word
+  mended : ℕ → ℕ → List ℕ → List ℕ → List ℕ → Case
+  -- m, t, what came in: refused 6
+  far : ℕ → ℕ → List ℕ → Case
+  -- m, what came in, its sums S_1, S_3, ..
+  summed : ℕ → List ℕ → List ℕ → Case
+
+unfoldable pub cases : List Case
+cases =
+    sent 4 1 (0 ∷ []) (0 ∷ 1 ∷ 4 ∷ [])
+    ∷ sent 4 2 (0 ∷ []) (0 ∷ 4 ∷ 6 ∷ 7 ∷ 8 ∷ [])
+    ∷ sent 4 3 (0 ∷ 2 ∷ 4 ∷ []) (0 ∷ 1 ∷ 2 ∷ 6 ∷ 9 ∷ 10 ∷ 12 ∷ 14 ∷ [])
+    ∷ sent 4 3 (0 ∷ 1 ∷ 2 ∷ 3 ∷ 4 ∷ []) (0 ∷ 1 ∷ 2 ∷ 3 ∷ 4 ∷ 5 ∷ 6 ∷ 7 ∷ 8 ∷ 9 ∷ 10 ∷ 11 ∷ 12 ∷ 13 ∷ 14 ∷ [])
+    ∷ mended 4 3 (1 ∷ 2 ∷ 6 ∷ 10 ∷ 12 ∷ []) (0 ∷ 9 ∷ 14 ∷ []) (0 ∷ 1 ∷ 2 ∷ 6 ∷ 9 ∷ 10 ∷ 12 ∷ 14 ∷ [])
+    ∷ summed 4 (0 ∷ 1 ∷ 2 ∷ 3 ∷ []) (15 ∷ 15 ∷ 1 ∷ [])
+    ∷ far 4 3 (0 ∷ 1 ∷ 2 ∷ 3 ∷ [])
+    ∷ mended 4 3 (0 ∷ 1 ∷ 2 ∷ 4 ∷ []) (5 ∷ 8 ∷ 10 ∷ []) (0 ∷ 1 ∷ 2 ∷ 4 ∷ 5 ∷ 8 ∷ 10 ∷ [])
+    ∷ mended 4 1 (0 ∷ 1 ∷ []) (4 ∷ []) (0 ∷ 1 ∷ 4 ∷ [])
+    ∷ mended 3 1 (0 ∷ 1 ∷ []) (3 ∷ []) (0 ∷ 1 ∷ 3 ∷ [])
+    ∷ mended 4 2 (0 ∷ 4 ∷ 6 ∷ []) (7 ∷ 8 ∷ []) (0 ∷ 4 ∷ 6 ∷ 7 ∷ 8 ∷ [])
+    ∷ summed 4 (3 ∷ []) (8 ∷ 10 ∷ [])
+    ∷ []
+
+-- n bits that hold 1 at the places of a set
+unfoldable pub bitsAt : ℕ → List ℕ → List ℕ
+bitsAt n ps = flipped (replicate n 0) ps
+
+bitsAt-long : (n : ℕ) (ps : List ℕ) → length (bitsAt n ps) ≡ n
+unfolding bitsAt
+bitsAt-long n ps = length-flipped (replicate n 0) ps ∙ length-replicate {A = ℕ} n 0
+
+bitsAt-bits : (n : ℕ) (ps : List ℕ) → AreBits (bitsAt n ps)
+unfolding bitsAt
+bitsAt-bits n ps = bits-flipped ps (bits-replicate n)
+
+-- what a case says: every outcome that the promise allows is this one
+abbrev pub Holds : Case → Type 0
+Holds (sent m t message word) =
+    (lent left : List ℕ) (x : Encoded) → length lent ≡ nOf m → Encodes m t (bitsAt (kOf m t) message) lent x left
+    → (x ≡ Done) × (left ≡ bitsAt (nOf m) word)
+Holds (mended m t received places word) =
+    (lentWord lentList left list : List ℕ) (x : Decoded) → length lentWord ≡ nOf m → length lentList ≡ t → Decodes m t (bitsAt (nOf m) received) lentWord lentList x left list
+    → (x ≡ Mended (length places)) × (left ≡ bitsAt (nOf m) word) × (list ≡ places ++ replicate (t - length places) 0)
+Holds (far m t received) =
+    (lentWord lentList left list : List ℕ) (x : Decoded) → length lentWord ≡ nOf m → length lentList ≡ t → Decodes m t (bitsAt (nOf m) received) lentWord lentList x left list
+    → (x ≡ Refused NothingNear) × (left ≡ lentWord) × (list ≡ lentList)
+Holds (summed m received sums) = (i : ℕ) → i < length sums → sumOf m (2 * i + 1) (bitsAt (nOf m) received) ≡ getD sums i 0
+
+-- the tests
+
+-- the two lists are the same
+unfoldable sameList : List ℕ → List ℕ → Bool
+sameList [] [] = true
+sameList [] (y ∷ ys) = false
+sameList (x ∷ xs) [] = false
+sameList (x ∷ xs) (y ∷ ys) = both (eqb x y) (sameList xs ys)
+
+unfoldable hasSums : ℕ → List ℕ → List ℕ → Bool
+hasSums m word sums = passes (λ i. eqb (sumOf m (2 * i + 1) word) (getD sums i 0)) 0 (length sums)
+
+unfoldable isCodeWord : ℕ → ℕ → List ℕ → Bool
+isCodeWord m t word = passes (λ i. eqb (sumOf m (2 * i + 1) word) 0) 0 t
+
+unfoldable sentTests : ℕ → ℕ → List ℕ → List ℕ → List Bool
+sentTests m t message word =
+    eqb (encodeRefusal m t (bitsAt (kOf m t) message) (bitsAt (nOf m) word)) 0
+    ∷ isCodeWord m t (bitsAt (nOf m) word)
+    ∷ passes (λ i. eqb (getD (bitsAt (nOf m) word) (nOf m - kOf m t + i) 0) (getD (bitsAt (kOf m t) message) i 0)) 0 (kOf m t)
+    ∷ []
+
+-- the checks pass where the buffers are as long as they must be
+unfoldable checksPass : ℕ → ℕ → List ℕ → List ℕ → Bool
+checksPass m t received word = eqb (decodeRefusal m t received (bitsAt (nOf m) word) (replicate t 0)) 0
+
+unfoldable mendedTests : ℕ → ℕ → List ℕ → List ℕ → List ℕ → List Bool
+mendedTests m t received places word =
+    checksPass m t (bitsAt (nOf m) received) word
+    ∷ isCodeWord m t (bitsAt (nOf m) word)
+    ∷ sameList (differences (bitsAt (nOf m) received) (bitsAt (nOf m) word)) places
+    ∷ leb (length places) t
+    ∷ []
+
+unfoldable farTests : ℕ → ℕ → List ℕ → List Bool
+farTests m t received =
+    checksPass m t (bitsAt (nOf m) received) received
+    ∷ noSet m (nOf m) 0 t (valuesOf (λ i. sumOf m (2 * i + 1) (bitsAt (nOf m) received)) t)
+    ∷ []
+
+unfoldable test : Case → Bool
+test (sent m t message word) = all (sentTests m t message word)
+test (mended m t received places word) = all (mendedTests m t received places word)
+test (far m t received) = all (farTests m t received)
+test (summed m received sums) = hasSums m (bitsAt (nOf m) received) sums
+
+-- what the tests tell
+
+same-list : (xs ys : List ℕ) → T (sameList xs ys) → xs ≡ ys
+unfolding sameList
+same-list [] [] t = refl
+same-list [] (y ∷ ys) t = absurd t
+same-list (x ∷ xs) [] t = absurd t
+same-list (x ∷ xs) (y ∷ ys) t =
+    ap₂ (λ (z : ℕ) (zs : List ℕ). z ∷ zs) (eqb→eq x y (both-left (eqb x y) (sameList xs ys) t)) (same-list xs ys (both-right (eqb x y) (sameList xs ys) t))
+
+-- the test f passes below n
+below-passed : (f : ℕ → Bool) (n : ℕ) → T (passes f 0 n) → (i : ℕ) → i < n → T (f i)
+below-passed f n t i h = passed-at f 0 n t i (omega arith) (omega arith)
+
+code-word : {m : ℕ} (t : ℕ) → Listed m → (ps : List ℕ) → T (isCodeWord m t (bitsAt (nOf m) ps)) → CodeWord m t (bitsAt (nOf m) ps)
+unfolding isCodeWord
+code-word {m} t L ps z =
+    let word : List ℕ = bitsAt (nOf m) ps in
+    record {
+      long = bitsAt-long (nOf m) ps;
+      bits = bitsAt-bits (nOf m) ps;
+      sums = odd-sums L word (bitsAt-bits (nOf m) ps) t (λ i h. eqb→eq (sumOf m (2 * i + 1) word) 0 (below-passed (λ j. eqb (sumOf m (2 * j + 1) word) 0) t z i h));
+    }
+
+-- a refusal looks at the lengths of the lent buffers only
+encode-lent : (m t : ℕ) (message lent lent′ : List ℕ) → length lent ≡ length lent′ → encodeRefusal m t message lent ≡ encodeRefusal m t message lent′
+unfolding encodeRefusal
+encode-lent m t message lent lent′ e = rw e refl
+
+decode-lent : (m t : ℕ) (received word list word′ list′ : List ℕ) → length word ≡ length word′ → length list ≡ length list′ → decodeRefusal m t received word list ≡ decodeRefusal m t received word′ list′
+unfolding decodeRefusal
+decode-lent m t received word list word′ list′ e l = rw (e, l) refl
+
+lent-passes : (m t : ℕ) (received word lentWord lentList : List ℕ) → length lentWord ≡ nOf m → length lentList ≡ t → T (checksPass m t received word) → decodeRefusal m t received lentWord lentList ≡ 0
+unfolding checksPass
+lent-passes m t received word lentWord lentList k l a =
+    decode-lent m t received lentWord lentList (bitsAt (nOf m) word) (replicate t 0) (k ∙ sym (bitsAt-long (nOf m) word)) (l ∙ sym (length-replicate {A = ℕ} t 0)) ∙ eqb→eq _ 0 a
+
+sent-holds : (m t : ℕ) (message word : List ℕ) → All (sentTests m t message word) → Holds (sent m t message word)
+unfolding sentTests
+sent-holds m t message word (also a (also b (also c done))) lent left x l p =
+    let z : encodeRefusal m t (bitsAt (kOf m t) message) lent ≡ 0 = encode-lent m t (bitsAt (kOf m t) message) lent (bitsAt (nOf m) word) (l ∙ sym (bitsAt-long (nOf m) word)) ∙ eqb→eq _ 0 a in
+    let L = encode-listed m t (bitsAt (kOf m t) message) lent z in
+    let E : Encoding m t (kOf m t) (bitsAt (kOf m t) message) (bitsAt (nOf m) word) =
+    record { code-word = code-word t (L .of-m .listed) word b; carries = λ i h. eqb→eq _ _ (below-passed (λ j. eqb (getD (bitsAt (nOf m) word) (nOf m - kOf m t + j) 0) (getD (bitsAt (kOf m t) message) j 0)) (kOf m t) c i h) } in
+    (encoded-tells x Done (p .number ∙ z), encoding-one L (p .done z) E)
+
+mended-holds : (m t : ℕ) (received places word : List ℕ) → All (mendedTests m t received places word) → Holds (mended m t received places word)
+unfolding mendedTests
+mended-holds m t received places word (also a (also b (also c (also d done)))) lentWord lentList left list x k l p =
+    let z = lent-passes m t (bitsAt (nOf m) received) word lentWord lentList k l a in
+    let R = decode-ready m t (bitsAt (nOf m) received) lentWord lentList z in
+    let e = same-list (differences (bitsAt (nOf m) received) (bitsAt (nOf m) word)) places c in
+    mended-is
+    (record {
+      code-word = code-word t (R .accepted .listed) word b;
+      counts = distance-length (bitsAt (nOf m) received) (bitsAt (nOf m) word) ∙ ap length e;
+      within = leb→le (length places) t d;
+      lists = ap (λ (ps : List ℕ). ps ++ replicate (t - length places) 0) (sym e);
+    })
+    z p
+
+far-holds : (m t : ℕ) (received : List ℕ) → All (farTests m t received) → Holds (far m t received)
+unfolding farTests
+far-holds m t received (also a (also b done)) lentWord lentList left list x k l p = pick (ℕ-discrete (decodedNumber x) 0)
+  where
+    w : List ℕ
+    w = bitsAt (nOf m) received
+
+    z : decodeRefusal m t w lentWord lentList ≡ 0
+    z = lent-passes m t w received lentWord lentList k l a
+
+    R : Ready m t w lentWord lentList
+    R = decode-ready m t w lentWord lentList z
+
+    f : ℕ → ℕ
+    f i = sumOf m (2 * i + 1) w
+
+    pick : Dec (decodedNumber x ≡ 0) → (x ≡ Refused NothingNear) × (left ≡ lentWord) × (list ≡ lentList)
+    pick (yes e) =
+        let M = p .found z .mended e in
+        absurd (nothing-located (values-long f t) b (differences w left)
+        (near-located (R .accepted .listed) (R .received-bits) (R .received-long) (values-at f t) left (M .code-word) (omega (arith, M .counts, M .within))))
+    pick (no n) =
+        let s = p .kept n in
+        (decoded-tells x (Refused NothingNear) (p .found z .far n .0) (refused-count x n), s .0, s .1)
+
+summed-holds : (m : ℕ) (received sums : List ℕ) → T (hasSums m (bitsAt (nOf m) received) sums) → Holds (summed m received sums)
+unfolding hasSums
+summed-holds m received sums t i h =
+    eqb→eq _ _ (below-passed (λ j. eqb (sumOf m (2 * j + 1) (bitsAt (nOf m) received)) (getD sums j 0)) (length sums) t i h)
+
+holds : (c : Case) → T (test c) → Holds c
+unfolding test
+holds (sent m t message word) b = sent-holds m t message word (all-passed (sentTests m t message word) b)
+holds (mended m t received places word) b = mended-holds m t received places word (all-passed (mendedTests m t received places word) b)
+holds (far m t received) b = far-holds m t received (all-passed (farTests m t received) b)
+holds (summed m received sums) b = summed-holds m received sums b
+
+-- the table
+
+unfoldable tests : List Case → Bool
+tests [] = true
+tests (c ∷ cs) = both (test c) (tests cs)
+
+tested : T (tests cases)
+unfolding tests cases test sentTests mendedTests farTests checksPass isCodeWord hasSums sameList bitsAt noSet zeroes plusPlace valuesOf encodeRefusal decodeRefusal isListed rowOf rowFrom kOf first firsts ks ts firstAbove flip flipped differences differencesFrom sumOf sumFrom power _⊗⟨_⟩_ remainder carryless horner digits shifted polynomial polynomials _⊕_
+tested = tt
+
+each : (cs : List Case) → T (tests cs) → (c : Case) → List·Memᴰ c cs → Holds c
+unfolding tests
+each [] b c k = absurd (List·Memᴰ·not-nil k)
+each (d ∷ cs) b c (List·Memᴰ·head e) = holds c (subst (λ (x : Case). T (test x)) (sym e) (both-left (test d) (tests cs) b))
+each (d ∷ cs) b c (List·Memᴰ·tail k) = each cs (both-right (test d) (tests cs) b) c k
+
+-- every case of the table holds
+pub all-hold : (c : Case) → List·Memᴰ c cases → Holds c
+all-hold = each cases tested
