@@ -16,7 +16,7 @@ use Rattle.bits.proofs.BitLaws.{addedAt-at, bit-cases, bits-head, bits-tail, bi
 use Rattle.field.specs.Sum.{_⊕_}
 use Rattle.field.specs.Product.{Listed, _⊗⟨_⟩_}
 use Rattle.field.specs.Power.{a, nOf, power}
-use Rattle.field.proofs.SumLaws.{sum, sum-self, sum-zero, zero-sum, sum-bound, equal-of-sum, sum-assoc}
+use Rattle.field.proofs.SumLaws.{xor-sum, sum, sum-self, sum-zero, zero-sum, sum-bound, equal-of-sum, sum-assoc}
 use Rattle.field.proofs.ProductLaws.{product, product-zero, zero-product, one-product, product-one, product-bound, product-left-comm, product-over, square-sum, product-rearrange}
 use Rattle.field.proofs.PowerLaws.{power-zero, power-add, power-mul, power-bound, power-one, power-even, one-bound, one-power, zero-power}
 use Rattle.field.proofs.Order.{power-mod, a-order, a-order-least, no-zero-divisors, eight-bound}
@@ -47,10 +47,6 @@ sumOver-nil m j = refl
 pub sumOver-cons : (m j p : ℕ) (ps : List ℕ) → sumOver m j (p ∷ ps) ≡ power m a (p * j) ⊕ sumOver m j ps
 unfolding sumOver
 sumOver-cons m j p ps = refl
-
-xor-sum : (x y : ℕ) → bitXor x y ≡ x ⊕ y
-unfolding _⊕_
-xor-sum x y = refl
 
 -- what stands at a place of two words added, as a sum of the field
 pub added-place : (xs ys : List ℕ) → length ys ≤ length xs → (i : ℕ) → getD (added xs ys) i 0 ≡ getD xs i 0 ⊕ getD ys i 0
