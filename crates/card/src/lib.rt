@@ -1,8 +1,9 @@
 // The operations under C names, each a thin call of the proved one.
 
-ghost use Rattle.card.specs.Answers.{DescribesAs, EncodesAs, DecodesAs};
+ghost use Rattle.card.specs.Answers.{DescribesAs, EncodesAs, DecodesAs, EditsAs};
 use codec::Decoded;
 use codec::Described;
+use codec::Edited;
 use codec::Encoded;
 
 // The sheet's number, 0 where nothing is refused, and n and k.
@@ -63,5 +64,22 @@ pub extern "C" fn blentovar_decode(
             number: sheet::number(r),
             wrong: 0,
         },
+    }
+}
+
+#[no_mangle]
+pub extern "C" fn blentovar_edit(
+    m: usize,
+    t: usize,
+    word: &mut [u8],
+    start: usize,
+    stretch: &[u8],
+) -> u32
+    ensures { λ r. ⌜ EditsAs m t (now (word .entry)) start (now (stretch .entry)) r (now (word .exit)) ⌝ }
+{
+    let answer = codec::edit(m, t, word, start, stretch);
+    match answer {
+        Edited::Done => 0,
+        Edited::Refused(r) => sheet::number(r),
     }
 }
