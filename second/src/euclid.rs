@@ -27,14 +27,26 @@ impl<'a> Decoder<'a> {
 
     /// The wrong places, ascending, if a code word is within t.
     pub fn wrong_places(&self, received: &[u8]) -> Option<Vec<usize>> {
-        let locator = self.locator(&self.sums(received));
-        let places = self.places(&locator);
-        if locator.len() != places.len() + 1 || places.len() > self.code.t {
-            return None;
-        }
+        let places = self.candidates(&self.sums(received))?;
         let mended = flipped(received, &places);
         let is_code_word = self.sums(&mended).iter().all(|s| *s == 0);
         is_code_word.then_some(places)
+    }
+
+    /// The at most t places whose odd sums are the given t ones, ascending, if there are such.
+    pub fn places_of_sums(&self, odd: &[Element]) -> Option<Vec<usize>> {
+        let sums = self.with_even_sums(|i| odd[i]);
+        let places = self.candidates(&sums)?;
+        let ones = flipped(&vec![0; self.code.n], &places);
+        (self.sums(&ones) == sums).then_some(places)
+    }
+
+    /// The roots of the locator of these sums, where it has as many as its degree and at most t.
+    fn candidates(&self, sums: &[Element]) -> Option<Vec<usize>> {
+        let locator = self.locator(sums);
+        let places = self.places(&locator);
+        let all_roots = locator.len() == places.len() + 1 && places.len() <= self.code.t;
+        all_roots.then_some(places)
     }
 
     /// S_1 to S_2t: the odd ones from the places that hold 1, the even ones by squaring.
@@ -42,10 +54,15 @@ impl<'a> Decoder<'a> {
         let n = self.code.n;
         let ones = (0..n).filter(|i| word[*i] == 1);
         let mut odd_sums = Walk::new(&self.tables, ones.map(|i| (i, 2 * i % n)));
+        self.with_even_sums(|_| odd_sums.next_sum())
+    }
+
+    /// S_1 to S_2t, where the i-th odd one, S_(2i+1), is asked for in order.
+    fn with_even_sums(&self, mut odd: impl FnMut(usize) -> Element) -> Vec<Element> {
         let mut sums = vec![0; 2 * self.code.t];
         for j in 1..=sums.len() {
             sums[j - 1] = if j % 2 == 1 {
-                odd_sums.next_sum()
+                odd(j / 2)
             } else {
                 let root = sums[j / 2 - 1];
                 self.tables.product(root, root)

@@ -1,8 +1,11 @@
 //! A second program that shares no code with the proved crates; what it prints is compared with what they print. Its decoder uses another method, but was written by someone who had read theirs.
 
 mod codes;
+mod editing;
 mod euclid;
 mod field;
+mod frames;
+mod keeping;
 mod made_up;
 mod mending;
 mod nearest;

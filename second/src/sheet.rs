@@ -1,6 +1,7 @@
 //! A model of the refusal sheet: the first check of an operation's order that refuses, or 0.
 
 use crate::codes::{is_field_size, listed, Code};
+use crate::keeping::Kept;
 
 /// Checks 1 and 2, with which every operation on (m, t) begins.
 fn code_or_refusal(m: u64, t: u64) -> Result<Code, u32> {
@@ -53,4 +54,68 @@ pub fn decode(
         return Err(5);
     }
     Ok(code)
+}
+
+/// Edit's order is 1, 2, 3, 12, 5.
+pub fn edit(m: u64, t: u64, word: &[u8], start: u64, stretch: &[u8]) -> Result<Code, u32> {
+    let code = code_or_refusal(m, t)?;
+    if word.len() != code.n {
+        return Err(3);
+    }
+    if runs_past(start, stretch, code.k) {
+        return Err(12);
+    }
+    if word.iter().chain(stretch).any(|bit| *bit > 1) {
+        return Err(5);
+    }
+    Ok(code)
+}
+
+/// Open's order is 1, 2, 3, 5.
+pub fn open(m: u64, t: u64, word: &[u8]) -> Result<Code, u32> {
+    let code = code_or_refusal(m, t)?;
+    if word.len() != code.n {
+        return Err(3);
+    }
+    if word.iter().any(|bit| *bit > 1) {
+        return Err(5);
+    }
+    Ok(code)
+}
+
+/// Splice's order is 1, 2, 7, 12, 5.
+pub fn splice(record: &Kept, start: u64, stretch: &[u8]) -> Result<Code, u32> {
+    let code = kept_code(record)?;
+    if runs_past(start, stretch, code.n) {
+        return Err(12);
+    }
+    if stretch.iter().any(|bit| *bit > 1) {
+        return Err(5);
+    }
+    Ok(code)
+}
+
+/// Decode kept's order is 1, 2, 7, 4; 6 is the decoder's.
+pub fn decode_kept(record: &Kept, word_places: usize, list_places: usize) -> Result<Code, u32> {
+    let code = kept_code(record)?;
+    if word_places != code.n || list_places != code.t {
+        return Err(4);
+    }
+    Ok(code)
+}
+
+/// Checks 1, 2 and 7.
+fn kept_code(record: &Kept) -> Result<Code, u32> {
+    let code = code_or_refusal(record.m, record.t)?;
+    let bad_bit = record.bits[..code.n].iter().any(|bit| *bit > 1);
+    let bad_sum = record.sums[..code.t].iter().any(|sum| usize::from(*sum) > code.n);
+    if bad_bit || bad_sum {
+        return Err(7);
+    }
+    Ok(code)
+}
+
+/// In numbers wide enough that nothing wraps.
+fn runs_past(start: u64, stretch: &[u8], end: usize) -> bool {
+    u128::from(start) + stretch.len() as u128 > end as u128
 }

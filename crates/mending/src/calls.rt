@@ -1,11 +1,11 @@
 // Calls of Decode with no fault, with one and with several; a line says what was lent, the answer, and whether each lent buffer is as it was.
 
 ghost use Prim.Native.Nat.{_≤_, _<_};
-use crate::room;
-use crate::text::end_line;
-use crate::text::print;
-use crate::text::print_number;
 use codec::Decoded;
+use workbench::room;
+use workbench::text::end_line;
+use workbench::text::print;
+use workbench::text::print_number;
 
 fn print_kept(is_kept: bool) {
     if is_kept {

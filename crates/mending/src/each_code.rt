@@ -3,14 +3,14 @@
 ghost use Prim.Native.Nat.{_≤_, _<_};
 ghost use lib.ListN.{length};
 ghost use Rattle.field.specs.Product.{Listed};
-use crate::made_up;
-use crate::room;
 use crate::tally;
 use crate::tally::Tally;
-use crate::text::end_line;
-use crate::text::print;
-use crate::text::print_number;
 use codes::Look;
+use workbench::made_up;
+use workbench::room;
+use workbench::text::end_line;
+use workbench::text::print;
+use workbench::text::print_number;
 
 fn decode_flipped_in(
     m: usize,

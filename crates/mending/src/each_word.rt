@@ -2,12 +2,12 @@
 
 ghost use Prim.Native.Nat.{_≤_};
 ghost use lib.ListN.{length};
-use crate::room;
 use crate::tally;
 use crate::tally::Tally;
-use crate::text::end_line;
-use crate::text::print;
-use crate::text::print_number;
+use workbench::room;
+use workbench::text::end_line;
+use workbench::text::print;
+use workbench::text::print_number;
 
 // The bits of a number, the lowest at place 0.
 fn fill_bits(number: usize, word: &mut [u8]) {

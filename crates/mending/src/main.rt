@@ -3,10 +3,7 @@
 mod calls;
 mod each_code;
 mod each_word;
-mod made_up;
-mod room;
 mod tally;
-mod text;
 
 fn main() {
     each_word::print_all();

@@ -2,10 +2,14 @@
 
 ghost use Prim.Native.Nat.{_≤_};
 ghost use lib.ListN.{length};
-use crate::room;
-use crate::text::print_number;
 use codec::Decoded;
 use sheet::Refusal;
+use workbench::mixing::mix;
+use workbench::mixing::mix_list;
+use workbench::mixing::mix_word;
+use workbench::mixing::plus;
+use workbench::room;
+use workbench::text::print_number;
 
 // The state is that of the generator that made the words.
 pub(crate) struct Tally {
@@ -34,43 +38,6 @@ pub(crate) fn with_state(tally: Tally, state: u64) -> Tally {
         wrong: tally.wrong,
         sum: tally.sum,
     }
-}
-
-// No count comes near a million; the remainders are there so that nothing can run over.
-fn plus(x: u64, y: u64) -> u64 {
-    (x % 1000000 + y % 1000000) % 1000000
-}
-
-fn mix(sum: u64, x: u64) -> u64 {
-    (sum % 65521 * 31 + x % 65536) % 65521
-}
-
-fn mix_bit(sum: u64, bit: u8) -> u64 {
-    mix(sum, bit as u64)
-}
-
-fn mix_place(sum: u64, place: u16) -> u64 {
-    mix(sum, place as u64)
-}
-
-fn mix_word(start: u64, word: &[u8]) -> u64 {
-    let mut sum = start;
-    let mut i = 0;
-    while i < word.len() {
-        sum = mix_bit(sum, word[i]);
-        i += 1;
-    }
-    sum
-}
-
-fn mix_list(start: u64, list: &[u16]) -> u64 {
-    let mut sum = start;
-    let mut i = 0;
-    while i < list.len() {
-        sum = mix_place(sum, list[i]);
-        i += 1;
-    }
-    sum
 }
 
 fn with_mended(tally: Tally, count: usize) -> Tally {

@@ -1,15 +1,15 @@
 // Calls of Describe and Encode with no fault, with one and with several; a line says what was lent, the answer, and whether the lent buffer is as it was.
 
 ghost use Prim.Native.Nat.{_≤_, _<_};
-use crate::room;
-use crate::text::end_line;
-use crate::text::print;
-use crate::text::print_number;
 use codec::Described;
 use codec::Encoded;
+use workbench::room;
+use workbench::text::end_line;
+use workbench::text::print;
+use workbench::text::print_number;
 
 fn print_state(lent: &[u8]) {
-    if room::is_unchanged(lent) {
+    if room::word_is_kept(lent) {
         print(b" unchanged");
     } else {
         print(b" changed");
@@ -22,11 +22,11 @@ fn print_described(answer: Described) {
     match answer {
         Described::Code { n, k } => {
             print_number(0);
-            print_number(n);
-            print_number(k);
+            print_number(n as u64);
+            print_number(k as u64);
         }
         Described::Refused(r) => {
-            print_number(sheet::number(r) as usize);
+            print_number(sheet::number(r) as u64);
             print(b" 0 0");
         }
     }
@@ -35,7 +35,7 @@ fn print_described(answer: Described) {
 fn print_encoded(answer: Encoded) {
     match answer {
         Encoded::Done => print_number(0),
-        Encoded::Refused(r) => print_number(sheet::number(r) as usize),
+        Encoded::Refused(r) => print_number(sheet::number(r) as u64),
     }
 }
 
@@ -53,9 +53,9 @@ fn encode_into(m: usize, t: usize, message: &[u8], lent: &mut [u8]) {
 
 fn print_describe(m: usize, t: usize, places: usize) {
     print(b"describe");
-    print_number(m);
-    print_number(t);
-    print_number(places);
+    print_number(m as u64);
+    print_number(t as u64);
+    print_number(places as u64);
     print(b" ->");
 }
 
@@ -63,19 +63,19 @@ fn print_describe(m: usize, t: usize, places: usize) {
 fn describe(m: usize, t: usize, places: usize)
     requires { ⌜ places ≤ 2048 ⌝ }
 {
-    let mut space = room::sevens();
+    let mut space = room::word_of_sevens();
     print_describe(m, t, places);
     describe_into(m, t, &mut space[..places]);
 }
 
 fn print_encode(m: usize, t: usize, length: usize, place: usize, held: u8, places: usize) {
     print(b"encode");
-    print_number(m);
-    print_number(t);
-    print_number(length);
-    print_number(place);
-    print_number(held as usize);
-    print_number(places);
+    print_number(m as u64);
+    print_number(t as u64);
+    print_number(length as u64);
+    print_number(place as u64);
+    print_number(held as u64);
+    print_number(places as u64);
     print(b" ->");
 }
 
@@ -84,7 +84,7 @@ fn encode(m: usize, t: usize, length: usize, place: usize, held: u8, places: usi
     requires { ⌜ (length ≤ 2048) × (place < 2048) × (places ≤ 2048) ⌝ }
 {
     let mut message = room::zeros();
-    let mut space = room::sevens();
+    let mut space = room::word_of_sevens();
     message[place] = held;
     print_encode(m, t, length, place, held, places);
     encode_into(m, t, &message[..length], &mut space[..places]);

@@ -3,51 +3,28 @@
 ghost use Prim.Native.Nat.{_≤_, _<_};
 ghost use lib.ListN.{length};
 ghost use Rattle.field.specs.Product.{Listed};
-use crate::room;
-use crate::text::end_line;
-use crate::text::print;
-use crate::text::print_bits;
-use crate::text::print_number;
 use codec::Described;
 use codec::Encoded;
 use codes::Look;
 use libc::STDOUT_FILENO;
 use sheet::Refusal;
-
-// The message bits are made by a linear generator of numbers below 2^31.
-fn next_state(state: u64) -> u64
-    requires { ⌜ state < 2147483648 ⌝ }
-    ensures { λ r. ⌜ r < 2147483648 ⌝ }
-{
-    (state * 1103515245 + 12345) % 2147483648
-}
-
-fn bit_of(state: u64) -> u8 {
-    (state / 65536 % 2) as u8
-}
-
-fn fill_message(start: u64, message: &mut [u8])
-    requires { ⌜ start < 2147483648 ⌝ }
-{
-    let mut state = start;
-    let mut i = 0;
-    while i < message.len() {
-        state = next_state(state);
-        message[i] = bit_of(state);
-        i += 1;
-    }
-}
+use workbench::made_up;
+use workbench::room;
+use workbench::text::end_line;
+use workbench::text::print;
+use workbench::text::print_bits;
+use workbench::text::print_number;
 
 fn print_refused(r: Refusal) {
     print(b" refused");
-    print_number(sheet::number(r) as usize);
+    print_number(sheet::number(r) as u64);
 }
 
 fn print_described(answer: Described) {
     match answer {
         Described::Code { n, k } => {
-            print_number(n);
-            print_number(k);
+            print_number(n as u64);
+            print_number(k as u64);
         }
         Described::Refused(r) => print_refused(r),
     }
@@ -79,7 +56,7 @@ fn print_word(m: usize, t: usize, message: &[u8], lent: &mut [u8])
 fn describe_with_room(m: usize, t: usize, places: usize)
     requires { ⌜ places ≤ 1024 ⌝ }
 {
-    let mut space = room::sevens();
+    let mut space = room::word_of_sevens();
     print_generator(m, t, &mut space[..places]);
 }
 
@@ -88,8 +65,8 @@ fn encode_with_room(m: usize, t: usize, n: usize, k: usize)
 {
     let start = m * 1000 + t;
     let mut message = room::zeros();
-    let mut space = room::sevens();
-    fill_message(start as u64, &mut message);
+    let mut space = room::word_of_sevens();
+    made_up::fill(start as u64, &mut message);
     print_word(m, t, &message[..k], &mut space[..n]);
 }
 
@@ -97,7 +74,7 @@ fn print_code(m: usize, t: usize, n: usize, k: usize)
     requires { ⌜ (m ≤ 10) × (t ≤ 256) × (k ≤ n) × (n ≤ 1023) ⌝ }
 {
     io::print_decimal(STDOUT_FILENO, m as u64);
-    print_number(t);
+    print_number(t as u64);
     describe_with_room(m, t, n - k + 1);
     encode_with_room(m, t, n, k);
     end_line();
@@ -140,6 +117,6 @@ pub(crate) fn print_all() {
         m += 1;
     }
     print(b"codes");
-    print_number(listed);
+    print_number(listed as u64);
     end_line();
 }

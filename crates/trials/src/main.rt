@@ -2,8 +2,6 @@
 
 mod calls;
 mod each_code;
-mod room;
-mod text;
 
 fn main() {
     each_code::print_all();

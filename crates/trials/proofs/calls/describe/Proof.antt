@@ -5,8 +5,8 @@ use borrow.Author.Needs.{needs}
 use Rattle.trials.proofs.calls.describe.Statement.{statement}
 use Rattle.trials.proofs.calls.describe.Tie as tie
 
-sevens-requires : tie.Need-sevens-requires
-sevens-requires c κs = search needs
+word-of-sevens-requires : tie.Need-word-of-sevens-requires
+word-of-sevens-requires c κs = search needs
 
 print-describe-requires : tie.Need-print-describe-requires
 print-describe-requires c κs = search needs
@@ -27,7 +27,7 @@ pub describe-spec : {M : Type 1} → statement M
 describe-spec =
     tie.close
     (tie.spec
-    sevens-requires
+    word-of-sevens-requires
     print-describe-requires
     array-borrow-prefix-space
     slice-aggregate-describe-into

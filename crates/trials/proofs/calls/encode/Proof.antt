@@ -8,8 +8,8 @@ use Rattle.trials.proofs.calls.encode.Tie as tie
 zeros-requires : tie.Need-zeros-requires
 zeros-requires c κs = search needs
 
-sevens-requires : tie.Need-sevens-requires
-sevens-requires c κs = search needs
+word-of-sevens-requires : tie.Need-word-of-sevens-requires
+word-of-sevens-requires c κs = search needs
 
 array-write-message : tie.Need-array-write-message
 array-write-message c = search needs
@@ -40,7 +40,7 @@ encode-spec =
     tie.close
     (tie.spec
     zeros-requires
-    sevens-requires
+    word-of-sevens-requires
     array-write-message
     print-encode-requires
     array-share-prefix-message

@@ -14,14 +14,14 @@ add-start c = search needs
 zeros-requires : tie.Need-zeros-requires
 zeros-requires c κs = search needs
 
-sevens-requires : tie.Need-sevens-requires
-sevens-requires c κs = search needs
+word-of-sevens-requires : tie.Need-word-of-sevens-requires
+word-of-sevens-requires c κs = search needs
 
-slice-aggregate-fill-message : tie.Need-slice-aggregate-fill-message
-slice-aggregate-fill-message c = search needs
+slice-aggregate-fill : tie.Need-slice-aggregate-fill
+slice-aggregate-fill c = search needs
 
-fill-message-requires : tie.Need-fill-message-requires
-fill-message-requires c κs = search needs
+fill-requires : tie.Need-fill-requires
+fill-requires c κs = search needs
 
 array-share-prefix-message : tie.Need-array-share-prefix-message
 array-share-prefix-message c = search needs
@@ -48,9 +48,9 @@ encode-with-room-spec =
     mul-start
     add-start
     zeros-requires
-    sevens-requires
-    slice-aggregate-fill-message
-    fill-message-requires
+    word-of-sevens-requires
+    slice-aggregate-fill
+    fill-requires
     array-share-prefix-message
     slice-aggregate-print-word
     array-borrow-prefix-space

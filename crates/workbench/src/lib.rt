@@ -1,0 +1,6 @@
+// What the programs that are compared with the second program have in common: made-up words, room to lend, printing, and sums over what was answered.
+
+pub mod made_up;
+pub mod mixing;
+pub mod room;
+pub mod text;
