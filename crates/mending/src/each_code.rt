@@ -3,11 +3,11 @@
 ghost use Prim.Native.Nat.{_≤_, _<_};
 ghost use lib.ListN.{length};
 ghost use Rattle.field.specs.Product.{Listed};
-use crate::tally;
-use crate::tally::Tally;
 use codes::Look;
 use workbench::made_up;
 use workbench::room;
+use workbench::tally;
+use workbench::tally::Tally;
 use workbench::text::end_line;
 use workbench::text::print;
 use workbench::text::print_number;

@@ -2,9 +2,9 @@
 
 ghost use Prim.Native.Nat.{_≤_};
 ghost use lib.ListN.{length};
-use crate::tally;
-use crate::tally::Tally;
 use workbench::room;
+use workbench::tally;
+use workbench::tally::Tally;
 use workbench::text::end_line;
 use workbench::text::print;
 use workbench::text::print_number;

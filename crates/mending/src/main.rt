@@ -3,7 +3,6 @@
 mod calls;
 mod each_code;
 mod each_word;
-mod tally;
 
 fn main() {
     each_word::print_all();

@@ -3,4 +3,5 @@
 pub mod made_up;
 pub mod mixing;
 pub mod room;
+pub mod tally;
 pub mod text;

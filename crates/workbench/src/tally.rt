@@ -2,17 +2,17 @@
 
 ghost use Prim.Native.Nat.{_≤_};
 ghost use lib.ListN.{length};
+use crate::mixing::mix;
+use crate::mixing::mix_list;
+use crate::mixing::mix_word;
+use crate::mixing::plus;
+use crate::room;
+use crate::text::print_number;
 use codec::Decoded;
 use sheet::Refusal;
-use workbench::mixing::mix;
-use workbench::mixing::mix_list;
-use workbench::mixing::mix_word;
-use workbench::mixing::plus;
-use workbench::room;
-use workbench::text::print_number;
 
 // The state is that of the generator that made the words.
-pub(crate) struct Tally {
+pub struct Tally {
     pub state: u64,
     pub mended: u64,
     pub refused: u64,
@@ -20,7 +20,7 @@ pub(crate) struct Tally {
     pub sum: u64,
 }
 
-pub(crate) fn nothing_yet(state: u64) -> Tally {
+pub fn nothing_yet(state: u64) -> Tally {
     Tally {
         state,
         mended: 0,
@@ -30,7 +30,7 @@ pub(crate) fn nothing_yet(state: u64) -> Tally {
     }
 }
 
-pub(crate) fn with_state(tally: Tally, state: u64) -> Tally {
+pub fn with_state(tally: Tally, state: u64) -> Tally {
     Tally {
         state,
         mended: tally.mended,
@@ -62,14 +62,14 @@ fn with_refused(tally: Tally, r: Refusal) -> Tally {
     }
 }
 
-fn with_answer(tally: Tally, answer: Decoded) -> Tally {
+pub fn with_answer(tally: Tally, answer: Decoded) -> Tally {
     match answer {
         Decoded::Mended(count) => with_mended(tally, count),
         Decoded::Refused(r) => with_refused(tally, r),
     }
 }
 
-fn with_buffers(tally: Tally, word: &[u8], list: &[u16]) -> Tally {
+pub fn with_buffers(tally: Tally, word: &[u8], list: &[u16]) -> Tally {
     let sum = mix_list(mix_word(tally.sum, word), list);
     Tally {
         state: tally.state,
@@ -94,7 +94,7 @@ fn decode_into(
 }
 
 // One more word decoded.
-pub(crate) fn decode(m: usize, t: usize, received: &[u8], tally: Tally) -> Tally
+pub fn decode(m: usize, t: usize, received: &[u8], tally: Tally) -> Tally
     requires { ⌜ (length (now received) ≤ 1023) × (t ≤ 256) ⌝ }
 {
     let n = received.len();
@@ -103,7 +103,7 @@ pub(crate) fn decode(m: usize, t: usize, received: &[u8], tally: Tally) -> Tally
     decode_into(m, t, received, &mut word[..n], &mut list[..t], tally)
 }
 
-pub(crate) fn print_all_but_mended(tally: Tally) {
+pub fn print_all_but_mended(tally: Tally) {
     print_number(tally.refused);
     print_number(tally.wrong);
     print_number(tally.sum);

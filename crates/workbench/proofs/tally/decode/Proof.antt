@@ -2,8 +2,8 @@
 use native.Mathlib.Omega.{arith}
 use lib.ListN.{length-take}
 use borrow.Author.Needs.{needs}
-use Rattle.mending.proofs.tally.decode.Statement.{statement}
-use Rattle.mending.proofs.tally.decode.Tie as tie
+use Rattle.workbench.proofs.tally.decode.Statement.{statement}
+use Rattle.workbench.proofs.tally.decode.Tie as tie
 
 word-of-sevens-requires : tie.Need-word-of-sevens-requires
 word-of-sevens-requires c κs = search needs
