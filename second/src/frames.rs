@@ -27,7 +27,9 @@ impl Link {
     }
 
     pub fn make(&self, reading: Reading) -> [u8; FRAME_BYTES] {
-        let fields = (u128::from(reading.house) << 80) | (u128::from(reading.poll) << 64) | u128::from(reading.counter);
+        let fields = (u128::from(reading.house) << 80)
+            | (u128::from(reading.poll) << 64)
+            | u128::from(reading.counter);
         let message: Vec<u8> = (0..self.code.k).map(|i| (fields >> i & 1) as u8).collect();
         let word = with_parity(&self.code, &self.generator, &message);
         let mut frame = [0; FRAME_BYTES];
@@ -48,12 +50,18 @@ impl Link {
         }
         let sent_bit = |sent: usize| frame[sent / 8] >> (7 - sent % 8) & 1;
         let received: Vec<u8> = (0..255).map(|place| sent_bit(254 - place)).collect();
-        let places = Decoder::new(&self.code).wrong_places(&received).ok_or(6u32)?;
+        let places = Decoder::new(&self.code)
+            .wrong_places(&received)
+            .ok_or(6u32)?;
         let message = &flipped(&received, &places)[156..];
         if message[96..] != [0, 0, 0] {
             return Err(11);
         }
-        let number = |bits: &[u8]| bits.iter().rev().fold(0u64, |n, bit| n << 1 | u64::from(*bit));
+        let number = |bits: &[u8]| {
+            bits.iter()
+                .rev()
+                .fold(0u64, |n, bit| n << 1 | u64::from(*bit))
+        };
         let reading = Reading {
             house: number(&message[80..96]) as u16,
             poll: number(&message[64..80]) as u16,
@@ -71,7 +79,11 @@ impl Link {
     fn line(&self, number: usize, frame: &[u8]) -> String {
         match self.read(frame) {
             Ok((reading, wrong)) => {
-                let Reading { house, poll, counter } = reading;
+                let Reading {
+                    house,
+                    poll,
+                    counter,
+                } = reading;
                 format!("{number} read {house} {poll} {counter} {wrong}\n")
             }
             Err(refusal) => format!("{number} refused {refusal}\n"),
@@ -98,7 +110,11 @@ mod tests {
     #[test]
     fn what_is_made_reads_back_also_with_23_wrong() {
         let link = Link::new();
-        let reading = Reading { house: 65535, poll: 1, counter: u64::MAX - 5 };
+        let reading = Reading {
+            house: 65535,
+            poll: 1,
+            counter: u64::MAX - 5,
+        };
         let mut frame = link.make(reading);
         assert_eq!(link.read(&frame), Ok((reading, 0)));
         for i in 0..23 {

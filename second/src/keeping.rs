@@ -1,107 +1,110 @@
-//! The kept record: opening one, splicing into it, decoding what is kept.
+//! What crates/keeping is to write: for every listed code, words edited, opened, spliced and decoded from what is kept.
 
-use crate::codes::Code;
-use crate::euclid::{flipped, Decoder};
-use crate::field::Element;
+use crate::codes::{listed, Code};
+use crate::editing::edit;
+use crate::kept::{decode_kept, open, splice, Kept};
+use crate::made_up::MadeUp;
+use crate::sheet;
+use crate::tally::Tally;
+use crate::words::with_parity;
 
-pub const BITS: usize = 1023;
-pub const SUMS: usize = 255;
+const ROUNDS: usize = 20;
 
-/// A record as it is handed about: it may hold anything.
-#[derive(Clone, Debug, PartialEq)]
-pub struct Kept {
-    pub m: u64,
-    pub t: u64,
-    pub bits: Vec<u8>,
-    pub sums: Vec<u16>,
+/// The longest stretch that is spliced in.
+const LONGEST: usize = 32;
+
+pub fn text() -> String {
+    let pairs = (3..=10).flat_map(|m| (0..=256).map(move |t| (m, t)));
+    let line = |(m, t)| listed(m, t).map(|code| code_line(m, &code));
+    let mut lines: Vec<String> = pairs.filter_map(line).collect();
+    lines.push(String::new());
+    lines.join("\n")
 }
 
-impl Kept {
-    pub fn zeros() -> Kept {
-        Kept {
-            m: 0,
-            t: 0,
-            bits: vec![0; BITS],
-            sums: vec![0; SUMS],
+/// m, t, how many were mended and refused, the number of wrong places and the sum.
+fn code_line(m: u64, code: &Code) -> String {
+    let mut trial = Trial {
+        m,
+        code,
+        generator: code.generator(),
+        made_up: MadeUp::new(m * 1000 + code.t as u64),
+        tally: Tally::default(),
+    };
+    for _ in 0..ROUNDS {
+        trial.round();
+    }
+    let Tally {
+        mended,
+        refused,
+        wrong,
+        sum,
+    } = trial.tally;
+    format!("keep {m} {} {mended} {refused} {wrong} {sum}", code.t)
+}
+
+struct Trial<'a> {
+    m: u64,
+    code: &'a Code,
+    generator: Vec<u8>,
+    made_up: MadeUp,
+    tally: Tally,
+}
+
+impl Trial<'_> {
+    /// A sent word edited, damaged, edited again, opened, spliced three times and twice refused, decoded, and decoded with one stored sum changed by hand.
+    fn round(&mut self) {
+        let (n, k, t) = (self.code.n, self.code.k, self.code.t);
+        let message = self.made_up.bits(k);
+        let mut word = with_parity(self.code, &self.generator, &message);
+        self.edit_some(&mut word);
+        let count = self.made_up.below(t + 2);
+        self.made_up.flip(&mut word, count);
+        self.edit_some(&mut word);
+        let mut record = open(self.m, self.code, &word);
+        self.mix_sums(0, &record);
+        for _ in 0..3 {
+            let start = self.made_up.below(n + 1);
+            let long = self.made_up.below((n - start).min(LONGEST) + 1);
+            let stretch = self.made_up.bits(long);
+            record = self.splice(&record, start, &stretch);
         }
-    }
-}
-
-/// S_1, S_3, .. S_(2t-1) of the word that holds 1 at these places.
-fn odd_sums(code: &Code, places: impl Iterator<Item = usize>) -> Vec<Element> {
-    let mut sums = vec![0; code.t];
-    for place in places {
-        for (i, sum) in sums.iter_mut().enumerate() {
-            *sum ^= code.field.power_of_a(place * (2 * i + 1));
-        }
-    }
-    sums
-}
-
-pub fn open(m: u64, code: &Code, word: &[u8]) -> Kept {
-    let mut record = Kept::zeros();
-    record.m = m;
-    record.t = code.t as u64;
-    record.bits[..code.n].copy_from_slice(word);
-    let ones = (0..code.n).filter(|i| word[*i] == 1);
-    for (kept, sum) in record.sums.iter_mut().zip(odd_sums(code, ones)) {
-        *kept = sum as u16;
-    }
-    record
-}
-
-/// The places are replaced, and the sums of those that changed are added to what is stored, whatever that is.
-pub fn splice(code: &Code, record: &Kept, start: usize, stretch: &[u8]) -> Kept {
-    let mut result = record.clone();
-    let changed = (0..stretch.len()).filter(|i| record.bits[start + i] != stretch[*i]);
-    for (kept, sum) in result.sums.iter_mut().zip(odd_sums(code, changed.map(|i| start + i))) {
-        *kept ^= sum as u16;
-    }
-    result.bits[start..start + stretch.len()].copy_from_slice(stretch);
-    result
-}
-
-/// The mended word and its wrong places, if at most t places have the stored sums.
-pub fn decode_kept(code: &Code, record: &Kept) -> Option<(Vec<u8>, Vec<usize>)> {
-    let stored: Vec<Element> = record.sums[..code.t].iter().map(|s| Element::from(*s)).collect();
-    let places = Decoder::new(code).places_of_sums(&stored)?;
-    Some((flipped(&record.bits[..code.n], &places), places))
-}
-
-#[cfg(test)]
-mod tests {
-    use super::{decode_kept, open, splice};
-    use crate::codes::listed;
-
-    #[test]
-    fn splices_into_a_kept_word_checked_by_hand() {
-        let code = listed(4, 3).expect("a listed code");
-        let zeros = open(4, &code, &[0; 15]);
-        let four = splice(&code, &zeros, 0, &[1, 1, 1, 1]);
-        assert_eq!(decode_kept(&code, &four), None);
-        let other = splice(&code, &four, 3, &[0, 1]);
-        let (_, places) = decode_kept(&code, &other).expect("three places are wrong");
-        assert_eq!(places, [5, 8, 10]);
+        record = self.splice(&record, n, &[1]);
+        record = self.splice(&record, 0, &[2]);
+        self.decode(&record);
+        let place = self.made_up.below(t);
+        record.sums[place] = self.made_up.below(n + 1) as u16;
+        self.decode(&record);
     }
 
-    #[test]
-    fn stored_sums_decide_and_splices_add_to_them() {
-        let code = listed(4, 3).expect("a listed code");
-        let mut record = open(4, &code, &[0; 15]);
-        record.bits[..5].copy_from_slice(&[1, 1, 1, 0, 1]);
-        let (word, places) = decode_kept(&code, &record).expect("the stored sums are 0");
-        assert_eq!((word, places), (record.bits[..15].to_vec(), vec![]));
-        let mut by_hand = open(4, &code, &[0; 15]);
-        by_hand.sums[..3].copy_from_slice(&[3, 7, 1]);
-        let spliced = splice(&code, &by_hand, 0, &[1]);
-        assert_eq!(spliced.sums[..3], [2, 6, 0]);
+    /// A made-up stretch put at a made-up message place.
+    fn edit_some(&mut self, word: &mut Vec<u8>) {
+        let k = self.code.k;
+        let start = self.made_up.below(k + 1);
+        let long = self.made_up.below(k - start + 1);
+        let stretch = self.made_up.bits(long);
+        *word = edit(self.code, &self.generator, word, start, &stretch);
+        self.tally.mix(0);
+        self.tally.mix_all(word.iter().map(|bit| usize::from(*bit)));
     }
 
-    #[test]
-    fn splicing_the_whole_word_is_opening_it() {
-        let code = listed(5, 2).expect("a listed code");
-        let word: Vec<u8> = (0..31).map(|i| (i % 3 == 0) as u8).collect();
-        let spliced = splice(&code, &open(5, &code, &[1; 31]), 0, &word);
-        assert_eq!(spliced, open(5, &code, &word));
+    fn splice(&mut self, record: &Kept, start: usize, stretch: &[u8]) -> Kept {
+        let (number, result) = match sheet::splice(record, start as u64, stretch) {
+            Ok(code) => (0, splice(&code, record, start, stretch)),
+            Err(number) => (number, record.clone()),
+        };
+        self.mix_sums(number, &result);
+        result
+    }
+
+    fn mix_sums(&mut self, number: u32, record: &Kept) {
+        self.tally.mix(number as usize);
+        let sums = &record.sums[..self.code.t];
+        self.tally.mix_all(sums.iter().map(|sum| usize::from(*sum)));
+    }
+
+    fn decode(&mut self, record: &Kept) {
+        let places = decode_kept(self.code, record).map(|(_, places)| places);
+        self.tally
+            .add(self.code, &record.bits[..self.code.n], places);
     }
 }

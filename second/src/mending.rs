@@ -3,6 +3,7 @@
 use crate::codes::{listed, Code};
 use crate::euclid::{flipped, Decoder};
 use crate::made_up::MadeUp;
+use crate::tally::Tally;
 use crate::{nearest, sheet, words};
 
 /// Ten words each.
@@ -103,50 +104,6 @@ const CALLS: [Call; 83] = [
     (11, 0, 16, 15, 2, 14, 2),
     (LARGEST, LARGEST, 0, 0, 255, 0, 0),
 ];
-
-/// What a line says of many words. The sum depends on every answer and on every place of both buffers after it.
-#[derive(Default)]
-struct Tally {
-    mended: usize,
-    refused: usize,
-    wrong: usize,
-    sum: u64,
-}
-
-impl Tally {
-    fn mix(&mut self, x: usize) {
-        self.sum = (self.sum * 31 + x as u64) % 65521;
-    }
-
-    fn mix_all(&mut self, xs: impl IntoIterator<Item = usize>) {
-        xs.into_iter().for_each(|x| self.mix(x));
-    }
-
-    fn add(&mut self, code: &Code, received: &[u8], places: Option<Vec<usize>>) {
-        match places {
-            Some(places) => self.add_mended(code.t, &flipped(received, &places), &places),
-            None => self.add_refused(code),
-        }
-    }
-
-    /// Number 0, the number of wrong places, the word, and the list with its zeros.
-    fn add_mended(&mut self, t: usize, word: &[u8], places: &[usize]) {
-        self.mended += 1;
-        self.wrong += places.len();
-        self.mix_all([0, places.len()]);
-        self.mix_all(word.iter().map(|bit| usize::from(*bit)));
-        self.mix_all(places.iter().copied());
-        self.mix_all(vec![0; t - places.len()]);
-    }
-
-    /// Number 6, no wrong places, and both buffers as lent: the word filled with 7, the list with 7777.
-    fn add_refused(&mut self, code: &Code) {
-        self.refused += 1;
-        self.mix_all([6, 0]);
-        self.mix_all(vec![7; code.n]);
-        self.mix_all(vec![7777; code.t]);
-    }
-}
 
 pub fn text() -> String {
     let mut lines = block_lines(3, 1, 128);

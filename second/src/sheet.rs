@@ -1,7 +1,7 @@
 //! A model of the refusal sheet: the first check of an operation's order that refuses, or 0.
 
 use crate::codes::{is_field_size, listed, Code};
-use crate::keeping::Kept;
+use crate::kept::Kept;
 
 /// Checks 1 and 2, with which every operation on (m, t) begins.
 fn code_or_refusal(m: u64, t: u64) -> Result<Code, u32> {
@@ -108,7 +108,9 @@ pub fn decode_kept(record: &Kept, word_places: usize, list_places: usize) -> Res
 fn kept_code(record: &Kept) -> Result<Code, u32> {
     let code = code_or_refusal(record.m, record.t)?;
     let bad_bit = record.bits[..code.n].iter().any(|bit| *bit > 1);
-    let bad_sum = record.sums[..code.t].iter().any(|sum| usize::from(*sum) > code.n);
+    let bad_sum = record.sums[..code.t]
+        .iter()
+        .any(|sum| usize::from(*sum) > code.n);
     if bad_bit || bad_sum {
         return Err(7);
     }

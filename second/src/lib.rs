@@ -1,0 +1,18 @@
+//! A second program that shares no code with the proved crates; what it prints is compared with what they print. Its decoder uses another method, but was written by someone who had read theirs.
+
+pub mod codes;
+pub mod editing;
+pub mod euclid;
+pub mod field;
+pub mod frames;
+pub mod keeping;
+pub mod kept;
+pub mod made_up;
+pub mod mending;
+pub mod nearest;
+pub mod polynomials;
+pub mod sheet;
+pub mod tables;
+pub mod tally;
+pub mod trials;
+pub mod words;
