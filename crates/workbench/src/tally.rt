@@ -69,8 +69,7 @@ pub fn with_answer(tally: Tally, answer: Decoded) -> Tally {
     }
 }
 
-pub fn with_buffers(tally: Tally, word: &[u8], list: &[u16]) -> Tally {
-    let sum = mix_list(mix_word(tally.sum, word), list);
+fn with_sum(tally: Tally, sum: u64) -> Tally {
     Tally {
         state: tally.state,
         mended: tally.mended,
@@ -78,6 +77,22 @@ pub fn with_buffers(tally: Tally, word: &[u8], list: &[u16]) -> Tally {
         wrong: tally.wrong,
         sum,
     }
+}
+
+pub fn with_number(tally: Tally, number: u64) -> Tally {
+    with_sum(tally, mix(tally.sum, number))
+}
+
+pub fn with_word(tally: Tally, word: &[u8]) -> Tally {
+    with_sum(tally, mix_word(tally.sum, word))
+}
+
+pub fn with_list(tally: Tally, list: &[u16]) -> Tally {
+    with_sum(tally, mix_list(tally.sum, list))
+}
+
+pub fn with_buffers(tally: Tally, word: &[u8], list: &[u16]) -> Tally {
+    with_list(with_word(tally, word), list)
 }
 
 fn decode_into(
