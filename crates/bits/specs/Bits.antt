@@ -6,6 +6,11 @@ use lib.Bits.{bitXor}
 use lib.Dec.{leb, ltb}
 use lib.ListN.{length, getD, set, replicate}
 
+-- the list of n entries whose entry i is f i
+unfoldable pub listOf : ℕ → (ℕ → ℕ) → List ℕ
+listOf zero f = []
+listOf (suc n) f = f 0 ∷ listOf n (λ i. f (suc i))
+
 -- every place holds 0 or 1
 pub record AreBits (xs : List ℕ) : Type 0 where
   pub at : (i : ℕ) → getD xs i 0 ≤ 1

@@ -8,8 +8,9 @@ use native.Mathlib.Omega.{arith}
 use lib.Dec.{T, eqb, leb, eqb→eq, leb→le}
 use lib.ListN.{length, getD, replicate, length-replicate}
 use Rattle.sheet.specs.declared.Refusal.the-variants.{NothingNear}
-use Rattle.bits.specs.Bits.{AreBits, firstAbove, flip, flipped}
+use Rattle.bits.specs.Bits.{AreBits, listOf, firstAbove, flip, flipped}
 use Rattle.bits.specs.Differences.{differences, differencesFrom}
+use Rattle.bits.proofs.Lists.{length-list, list-at}
 use Rattle.bits.proofs.BitLaws.{length-flipped, bits-flipped, bits-replicate}
 use Rattle.bits.proofs.DistanceLaws.{distance-length}
 use Rattle.field.specs.Sum.{_⊕_}
@@ -30,7 +31,7 @@ use Rattle.codec.specs.Work.{Ready}
 use Rattle.codec.specs.Decode.{Decodes, decodeRefusal, decodedNumber}
 use Rattle.codec.proofs.DecodeLaws.{near-located}
 use Rattle.demands.proofs.OneOutcome.{encoded-tells, encode-listed, encoding-one}
-use Rattle.demands.proofs.Near.{valuesOf, values-at, values-long, decode-ready, decoded-tells, refused-count, mended-is}
+use Rattle.demands.proofs.Near.{decode-ready, decoded-tells, refused-count, mended-is}
 use Rattle.demands.proofs.NoSet.{zeroes, plusPlace, noSet, nothing-located}
 
 pub data Case : Type 0 where
@@ -121,7 +122,7 @@ mendedTests m t received places word =
 unfoldable farTests : ℕ → ℕ → List ℕ → List Bool
 farTests m t received =
     checksPass m t (bitsAt (nOf m) received) received
-    ∷ noSet m (nOf m) 0 t (valuesOf (λ i. sumOf m (2 * i + 1) (bitsAt (nOf m) received)) t)
+    ∷ noSet m (nOf m) 0 t (listOf t (λ i. sumOf m (2 * i + 1) (bitsAt (nOf m) received)))
     ∷ []
 
 unfoldable test : Case → Bool
@@ -211,8 +212,8 @@ far-holds m t received (also a (also b done)) lentWord lentList left list x k l 
     pick : Dec (decodedNumber x ≡ 0) → (x ≡ Refused NothingNear) × (left ≡ lentWord) × (list ≡ lentList)
     pick (yes e) =
         let M = p .found z .mended e in
-        absurd (nothing-located (values-long f t) b (differences w left)
-        (near-located (R .accepted .listed) (R .received-bits) (R .received-long) (values-at f t) left (M .code-word) (omega (arith, M .counts, M .within))))
+        absurd (nothing-located (length-list t f) b (differences w left)
+        (near-located (R .accepted .listed) (R .received-bits) (R .received-long) (list-at t f) left (M .code-word) (omega (arith, M .counts, M .within))))
     pick (no n) =
         let s = p .kept n in
         (decoded-tells x (Refused NothingNear) (p .found z .far n .0) (refused-count x n), s .0, s .1)
@@ -236,7 +237,7 @@ tests [] = true
 tests (c ∷ cs) = both (test c) (tests cs)
 
 tested : T (tests cases)
-unfolding tests cases test sentTests mendedTests farTests checksPass isCodeWord hasSums sameList bitsAt noSet zeroes plusPlace valuesOf encodeRefusal decodeRefusal isListed rowOf rowFrom kOf first firsts ks ts firstAbove flip flipped differences differencesFrom sumOf sumFrom power _⊗⟨_⟩_ remainder carryless horner digits shifted polynomial polynomials _⊕_
+unfolding tests cases test sentTests mendedTests farTests checksPass isCodeWord hasSums sameList bitsAt noSet zeroes plusPlace listOf encodeRefusal decodeRefusal isListed rowOf rowFrom kOf first firsts ks ts firstAbove flip flipped differences differencesFrom sumOf sumFrom power _⊗⟨_⟩_ remainder carryless horner digits shifted polynomial polynomials _⊕_
 tested = tt
 
 each : (cs : List Case) → T (tests cs) → (c : Case) → List·Memᴰ c cs → Holds c

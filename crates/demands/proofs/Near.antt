@@ -1,18 +1,19 @@
 -- Within t of what came in there is at most one code word, so Decode leaves one outcome, and a sent word with at most t flips comes back.
 use mathlib.Core.Path.{_≡_, _∙_, refl, sym, ap, ap₂, subst}
 use mathlib.Core.Bool.{Bool, true, false}
-use mathlib.Core.List.{List, [], _∷_, _++_, List·Memᴰ, List·Memᴰ·not-nil}
+use mathlib.Core.List.{List, _++_, List·Memᴰ, List·Memᴰ·not-nil}
 use mathlib.Core.Logic.{_≢_}
-use Prim.Native.Nat.{ℕ, zero, suc, _+_, _-_, _*_, _≤_, _<_}
+use Prim.Native.Nat.{ℕ, suc, _+_, _-_, _*_, _≤_, _<_}
 use native.Mathlib.Decide.{ℕ-discrete}
 use native.Mathlib.Nat.{sub-zero}
 use native.Mathlib.Omega.{arith}
 use borrow.Author.Tests.{eqb-true, not-false, ltb-false}
-use lib.ListN.{length, getD, replicate}
+use lib.ListN.{length, replicate}
 use Rattle.sheet.specs.Number.{refuseIf}
 use Rattle.sheet.proofs.NumberLaws.{number-positive, number-tells}
-use Rattle.bits.specs.Bits.{AreBits, flipped}
+use Rattle.bits.specs.Bits.{AreBits, listOf, flipped}
 use Rattle.bits.specs.Differences.{differences, distance, Ascending}
+use Rattle.bits.proofs.Lists.{list-at}
 use Rattle.bits.proofs.BitLaws.{flipped-nil, all-bits}
 use Rattle.bits.proofs.DistanceLaws.{distance-comm, differences-comm, distance-flipped, differences-flipped, flipped-differences}
 use Rattle.field.specs.Product.{Listed}
@@ -26,28 +27,12 @@ use Rattle.codec.specs.Work.{Ready}
 use Rattle.codec.specs.Decode.{Decodes, Mends, decodeRefusal, decodedNumber, decodedCount}
 use Rattle.codec.proofs.DecodeLaws.{near-located}
 
--- the first n values in a list
-unfoldable pub valuesOf : (ℕ → ℕ) → ℕ → List ℕ
-valuesOf f zero = []
-valuesOf f (suc n) = f 0 ∷ valuesOf (λ i. f (suc i)) n
-
-pub values-at : (f : ℕ → ℕ) (n i : ℕ) → i < n → getD (valuesOf f n) i 0 ≡ f i
-unfolding valuesOf
-values-at f zero i h = absurd (omega arith)
-values-at f (suc n) zero h = refl
-values-at f (suc n) (suc i) h = values-at (λ j. f (suc j)) n i (omega arith)
-
-pub values-long : (f : ℕ → ℕ) (n : ℕ) → length (valuesOf f n) ≡ n
-unfolding valuesOf
-values-long f zero = refl
-values-long f (suc n) = ap suc (values-long (λ j. f (suc j)) n)
-
 -- what came in: n bits
 module _ {m t : ℕ} (L : Listed m) {received : List ℕ} (B : AreBits received) (long : length received ≡ nOf m) where
   pub near-one : {c d : List ℕ} → CodeWord m t c → CodeWord m t d → distance received c ≤ t → distance received d ≤ t → c ≡ d
   near-one {c} {d} C D h k =
       let f : ℕ → ℕ = λ i. sumOf m (2 * i + 1) received in
-      let e = one-set {sums = valuesOf f t} L (near-located L B long (values-at f t) c C h) (near-located L B long (values-at f t) d D k) in
+      let e = one-set {sums = listOf t f} L (near-located L B long (list-at t f) c C h) (near-located L B long (list-at t f) d D k) in
       sym (flipped-differences received c (long ∙ sym (C .long)) B (C .bits)) ∙ ap (flipped received) e ∙ flipped-differences received d (long ∙ sym (D .long)) B (D .bits)
 
   pub mends-one : {count count′ : ℕ} {word list word′ list′ : List ℕ} → Mends m t received word list count → Mends m t received word′ list′ count′

@@ -1,0 +1,31 @@
+-- The number has at most 20 digits, so the text after it fits.
+use borrow.Author.Needs.{needs}
+use native.Mathlib.Omega.{arith}
+use Rattle.frame.proofs.LineLaws.{decimal-fits, put-then, put-copied}
+use Rattle.frame.proofs.line.put_field.Statement.{statement}
+use Rattle.frame.proofs.line.put_field.Tie as tie
+
+put-decimal-requires : tie.Need-put-decimal-requires
+put-decimal-requires c κs = omega (arith, decimal-fits {n = c .before .before .before .args .n} (omega arith))
+
+copy-at-requires : tie.Need-copy-at-requires
+copy-at-requires c κs = omega (arith, decimal-fits {n = c .before .before .before .before .before .before .before .args .n} (omega arith), c .before .before .before .put-decimal .ensures .next-is, c .before .before .before .put-decimal .kept .0)
+
+add-result : tie.Need-add-result
+add-result c = record { fits = omega (arith, decimal-fits {n = c .before .before .before .before .before .before .before .before .before .before .args .n} (omega arith), c .before .before .before .before .before .before .put-decimal .ensures .next-is, c .before .before .before .before .before .before .put-decimal .kept .0, c .before .before .before .before .before .before .before .before .before .before .pre) }
+
+same-length : tie.Need-same-length
+same-length c = search needs
+
+returns : tie.Need-returns
+returns c =
+    let d = c .before .before .before .before .before .before .put-decimal in
+    let f = decimal-fits {n = c .before .before .before .before .before .before .before .before .before .before .args .n} (omega arith) in
+    record {
+      put = put-then (d .ensures) (put-copied (d .result) (omega (arith, f, d .ensures .next-is, d .kept .0, c .before .before .before .before .before .before .before .before .before .before .pre)) (c .before .before .copy-at .ensures));
+      most = omega (arith, f, d .ensures .next-is);
+    }
+
+pub put-field-spec : {M : Type 1} → statement M
+put-field-spec =
+    tie.close (tie.spec put-decimal-requires copy-at-requires add-result same-length returns)

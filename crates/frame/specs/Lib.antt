@@ -1,0 +1,5 @@
+pub mod Frame
+pub mod Make
+pub mod Read
+pub mod Line
+pub mod Work

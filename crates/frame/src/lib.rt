@@ -1,0 +1,17 @@
+// The reading frame: one reading as a word of the code (255, 99, 23) in 32 bytes.
+
+mod line;
+mod making;
+mod places;
+mod reading;
+
+pub use line::write_line;
+pub use making::Making;
+pub use making::make;
+pub use places::Place;
+pub use places::Reading;
+pub use places::Sent;
+pub use places::place_of;
+pub use places::sent_of;
+pub use reading::ReadFrame;
+pub use reading::read;
