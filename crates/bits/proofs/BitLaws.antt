@@ -7,11 +7,12 @@ use Prim.Native.Nat.{ℕ, zero, suc, _+_, _-_, _*_, _≤_, _<_}
 use native.Mathlib.Nat.{le-antisymm, zero-add, suc-add, lt-of-not-le, suc-inj, zero-mul, one-mul, mul-zero}
 use native.Mathlib.Decide.{decLe}
 use native.Mathlib.Omega.{arith}
+use borrow.Author.Tests.{le-ltb, ltb-false}
 use lib.Bits.{bitXor, xor-lt, xor-zero-r, xor-self, xor-comm}
 use lib.Dec.{T, leb, leb→le}
 use lib.ListN.{length, getD, set, take, drop, replicate, length-set, length-replicate, length-map, List·getD-eq-default}
 use lib.Seq.{getD-set-same, getD-set-other, getD-drop}
-use Rattle.bits.specs.Bits.{AreBits, firstAbove, added, addedAt, flip, flipped, productBits}
+use Rattle.bits.specs.Bits.{AreBits, firstAbove, hasBadBit, added, addedAt, flip, flipped, productBits}
 
 -- one bit
 
@@ -364,3 +365,10 @@ bits-exactly xs = (bits-of-firstAbove xs, firstAbove-of-bits xs)
 -- a search that has come to the end has found nothing
 pub all-bits : (xs : List ℕ) {bad : ℕ} → bad ≡ firstAbove xs → length xs ≤ bad → AreBits xs
 all-bits xs {bad} e h = bits-of-firstAbove xs (le-antisymm (firstAbove-most xs) (rw (← e) h))
+
+-- no place above 1 is found exactly in bits
+pub not-bad : {xs : List ℕ} → AreBits xs → hasBadBit xs ≡ false
+not-bad {xs} b = le-ltb (firstAbove xs) (length xs) (omega (arith, firstAbove-of-bits xs b))
+
+pub bits-of-not-bad : (xs : List ℕ) → hasBadBit xs ≡ false → AreBits xs
+bits-of-not-bad xs e = all-bits xs refl (ltb-false (firstAbove xs) (length xs) e)

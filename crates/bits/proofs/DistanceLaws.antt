@@ -2,13 +2,13 @@
 use mathlib.Core.Path.{_≡_, _∙_, refl, sym, ap, ap₂, subst}
 use mathlib.Core.Logic.{_≢_}
 use mathlib.Core.Bool.{Bool, true, false, cond}
-use mathlib.Core.List.{List, [], _∷_, map, List·Memᴰ, List·Memᴰ·head, List·Memᴰ·tail, List·Memᴰ·not-nil}
+use mathlib.Core.List.{List, [], _∷_, _++_, map, map-append, List·Memᴰ, List·Memᴰ·head, List·Memᴰ·tail, List·Memᴰ·not-nil}
 use Prim.Native.Nat.{ℕ, zero, suc, _+_, _-_, _≤_, _<_}
 use native.Mathlib.Nat.{suc-inj}
 use native.Mathlib.Decide.{ℕ-discrete}
 use native.Mathlib.Omega.{arith}
 use lib.Dec.{T, eqb, eqb→eq, eqb-refl}
-use lib.ListN.{length, getD, length-map, List·getD-eq-default}
+use lib.ListN.{length, getD, set, take, drop, length-map, List·getD-eq-default}
 use lib.Seq.{ext-getD}
 use Rattle.bits.specs.Bits.{AreBits, flip, flipped}
 use Rattle.bits.specs.Differences.{differencesFrom, differences, distance, Ascending}
@@ -130,6 +130,44 @@ differences-member =
 pub differences-self : (xs : List ℕ) → differences xs xs ≡ []
 differences-self [] = differences-nil []
 differences-self (x ∷ xs) = differences-same xs xs refl ∙ ap (map suc) (differences-self xs)
+
+-- a place past all differences changed: it comes after them
+pub differences-more : (xs ys : List ℕ) (p x : ℕ) → length xs ≡ length ys → p < length ys → ((i : ℕ) → p ≤ i → getD xs i 0 ≡ getD ys i 0) → getD ys p 0 ≢ x
+    → differences xs (set ys p x) ≡ differences xs ys ++ p ∷ []
+differences-more xs [] p x l h same n = absurd (omega arith)
+differences-more [] (y ∷ ys) p x l h same n = absurd (omega arith)
+differences-more (z ∷ xs) (y ∷ ys) zero x l h same n =
+    let rest : xs ≡ ys = ext-getD 0 xs ys (suc-inj l) (λ i k. same (suc i) (omega arith)) in
+    let none : differences xs ys ≡ [] = ap (differences xs) (sym rest) ∙ differences-self xs in
+    differences-other xs ys (λ e. n (sym (same 0 (omega arith)) ∙ e))
+    ∙ ap (λ ps. 0 ∷ map suc ps) none
+    ∙ sym (ap (λ ps. ps ++ 0 ∷ []) (differences-same xs ys (same 0 (omega arith)) ∙ ap (map suc) none))
+differences-more (z ∷ xs) (y ∷ ys) (suc p) x l h same n =
+    pick (ℕ-discrete z y) (differences-more xs ys p x (suc-inj l) (omega arith) (λ i k. same (suc i) (omega arith)) n)
+  where
+    pick : Dec (z ≡ y) → differences xs (set ys p x) ≡ differences xs ys ++ p ∷ []
+        → differences (z ∷ xs) (y ∷ set ys p x) ≡ differences (z ∷ xs) (y ∷ ys) ++ suc p ∷ []
+    pick (yes e) r =
+        differences-same xs (set ys p x) e
+        ∙ ap (map suc) r
+        ∙ map-append suc (differences xs ys) (p ∷ [])
+        ∙ sym (ap (λ ps. ps ++ suc p ∷ []) (differences-same xs ys e))
+    pick (no e) r =
+        differences-other xs (set ys p x) e
+        ∙ ap (λ ps. 0 ∷ map suc ps) r
+        ∙ ap (λ ps. 0 ∷ ps) (map-append suc (differences xs ys) (p ∷ []))
+        ∙ sym (ap (λ ps. ps ++ suc p ∷ []) (differences-other xs ys e))
+
+-- two words that agree from place n on differ where their first n places do
+pub differences-front : (n : ℕ) (xs ys : List ℕ) → length xs ≡ length ys → drop n xs ≡ drop n ys → differences xs ys ≡ differences (take n xs) (take n ys)
+differences-front zero xs ys l e = ap (differences xs) (sym e) ∙ differences-self xs ∙ sym (differences-nil [])
+differences-front (suc n) [] ys l e = differences-nil ys ∙ sym (differences-nil (take (suc n) ys))
+differences-front (suc n) (x ∷ xs) [] l e = absurd (omega arith)
+differences-front (suc n) (x ∷ xs) (y ∷ ys) l e = pick (ℕ-discrete x y) (differences-front n xs ys (suc-inj l) e)
+  where
+    pick : Dec (x ≡ y) → differences xs ys ≡ differences (take n xs) (take n ys) → differences (x ∷ xs) (y ∷ ys) ≡ differences (x ∷ take n xs) (y ∷ take n ys)
+    pick (yes q) r = differences-same xs ys q ∙ ap (map suc) r ∙ sym (differences-same (take n xs) (take n ys) q)
+    pick (no q) r = differences-other xs ys q ∙ ap (λ ps. 0 ∷ map suc ps) r ∙ sym (differences-other (take n xs) (take n ys) q)
 
 pub differences-comm : (xs ys : List ℕ) → differences xs ys ≡ differences ys xs
 differences-comm =

@@ -1,6 +1,6 @@
 -- What one turn of each loop does to the list that it works on.
-use mathlib.Core.Path.{_≡_, _∙_, sym, ap, subst}
-use mathlib.Core.List.{List, [], _∷_, _++_}
+use mathlib.Core.Path.{_≡_, _∙_, sym, ap, ap₂, subst}
+use mathlib.Core.List.{List, [], _∷_, _++_, append-assoc}
 use Prim.Native.Nat.{ℕ, zero, suc, _+_, _-_, _≤_, _<_}
 use native.Mathlib.Nat.{zero-add, suc-add, not-suc-le-zero, le-of-suc-le-suc}
 use native.Mathlib.Decide.{decLt}
@@ -8,8 +8,8 @@ use native.Mathlib.Omega.{arith}
 use borrow.Author.Tests.{lt-ltb, le-ltb}
 use lib.Bits.{bitXor}
 use lib.Dec.{ltb}
-use lib.ListN.{length, getD, set, take, drop, List·getD-append}
-use lib.Seq.{paste, length-paste-head, drop-paste, getD-take, getD-drop, getD-append-add, take-length, take-append-seam, length-take-le}
+use lib.ListN.{length, getD, set, take, drop, take-append-drop, List·getD-append}
+use lib.Seq.{paste, length-paste, length-paste-head, take-at, drop-at, take-append-le, drop-append-le, drop-paste, getD-take, getD-drop, getD-append-add, take-all, take-length, take-append-seam, length-take-le}
 use Rattle.bits.specs.Bits.{AreBits, added, addedAt, flip, flipped}
 use Rattle.bits.proofs.BitLaws.{bits-append, bits-take, bits-drop, added-none, added-cons, addedAt-zero, addedAt-cons, addedAt-nil, addedAt-after, flipped-nil, flipped-cons}
 
@@ -53,6 +53,9 @@ pub copied-front : (space g copy : List ℕ) → copy ≡ paste space 0 g (lengt
 copied-front space g copy e =
     ap (take (length g)) (e ∙ ap (λ (l : List ℕ). l ++ drop (0 + length g) space) (take-length g)) ∙ take-append-seam g (drop (0 + length g) space)
 
+pub copied-whole : (d s copy : List ℕ) → length d ≡ length s → length copy ≡ length d → copy ≡ paste d 0 s (length s) → copy ≡ s
+copied-whole d s copy l k e = sym (take-all (length s) copy (omega arith)) ∙ copied-front d s copy e
+
 -- what a copy leaves at the places copied to
 pub paste-at : (d : List ℕ) (at : ℕ) (s : List ℕ) (i : ℕ) → at ≤ length d → i < length s → getD (paste d at s (length s)) (at + i) 0 ≡ getD s i 0
 paste-at d at s i h k =
@@ -60,6 +63,12 @@ paste-at d at s i h k =
     ∙ ap (λ (p : ℕ). getD (take at d ++ take (length s) s) (p + i) 0) (sym (length-take-le at d h))
     ∙ getD-append-add (take at d) (take (length s) s) i 0
     ∙ ap (λ (l : List ℕ). getD l i 0) (take-length s)
+
+-- lists that are the same from place n on
+pub same-from : (n : ℕ) (xs ys : List ℕ) → drop n xs ≡ drop n ys → (i : ℕ) → n ≤ i → getD xs i 0 ≡ getD ys i 0
+same-from n xs ys e i h =
+    let at : n + (i - n) ≡ i = omega arith in
+    subst (λ (p : ℕ). getD xs p 0 ≡ getD ys p 0) at (sym (getD-drop n xs (i - n) 0) ∙ ap (λ (l : List ℕ). getD l (i - n) 0) e ∙ getD-drop n ys (i - n) 0)
 
 -- and at the places before and after them
 pub paste-before : (d : List ℕ) (at : ℕ) (s : List ℕ) (i : ℕ) → at ≤ length d → i < at → getD (paste d at s (length s)) i 0 ≡ getD d i 0
@@ -69,16 +78,28 @@ paste-before d at s i h k =
     ∙ getD-take at d i 0 k
 
 pub paste-after : (d : List ℕ) (at : ℕ) (s : List ℕ) (i : ℕ) → at ≤ length d → at + length s ≤ i → getD (paste d at s (length s)) i 0 ≡ getD d i 0
-paste-after d at s i h k =
-    let e : at + length s + (i - (at + length s)) ≡ i = omega arith in
-    let same : getD (paste d at s (length s)) (at + length s + (i - (at + length s))) 0 ≡ getD d (at + length s + (i - (at + length s))) 0 =
-    sym (getD-drop (at + length s) (paste d at s (length s)) (i - (at + length s)) 0)
-    ∙ ap (λ (l : List ℕ). getD l (i - (at + length s)) 0) (drop-paste d at s (length s) h (omega arith))
-    ∙ getD-drop (at + length s) d (i - (at + length s)) 0 in
-    subst (λ (p : ℕ). getD (paste d at s (length s)) p 0 ≡ getD d p 0) e same
+paste-after d at s i h k = same-from (at + length s) (paste d at s (length s)) d (drop-paste d at s (length s) h (omega arith)) i k
 
 pub bits-paste : {d s : List ℕ} (at : ℕ) → AreBits d → AreBits s → AreBits (paste d at s (length s))
 bits-paste {d} {s} at b c = bits-append (bits-append (bits-take at b) (bits-take (length s) c)) (bits-drop (at + length s) b)
+
+-- a copy that ends within the first part of a list leaves the rest
+pub paste-part : (d e : List ℕ) (at : ℕ) (s : List ℕ) → at + length s ≤ length d → paste (d ++ e) at s (length s) ≡ paste d at s (length s) ++ e
+paste-part d e at s h =
+    ap₂ (λ (x y : List ℕ). x ++ take (length s) s ++ y) (take-append-le at d e (omega arith)) (drop-append-le (at + length s) d e h)
+    ∙ sym (append-assoc (take at d ++ take (length s) s) (drop (at + length s) d) e)
+
+-- so to copy and to take the first n places may change about, and the places from n on are as they were
+pub paste-front : (n : ℕ) (d : List ℕ) (at : ℕ) (s : List ℕ) → n ≤ length d → at + length s ≤ n
+    → (take n (paste d at s (length s)) ≡ paste (take n d) at s (length s)) × (drop n (paste d at s (length s)) ≡ drop n d)
+paste-front n d at s h k =
+    let cut : length (take n d) ≡ n = length-take-le n d h in
+    let whole : paste d at s (length s) ≡ paste (take n d) at s (length s) ++ drop n d =
+    ap (λ (l : List ℕ). paste l at s (length s)) (sym (take-append-drop n d)) ∙ paste-part (take n d) (drop n d) at s (omega arith) in
+    let long : length (paste (take n d) at s (length s)) ≡ n = length-paste (take n d) at s (length s) (omega arith) (omega arith) ∙ cut in (
+      ap (take n) whole ∙ take-at (paste (take n d) at s (length s)) (drop n d) n long,
+      ap (drop n) whole ∙ drop-at (paste (take n d) at s (length s)) (drop n d) n long,
+    )
 
 -- to run past the end is to need more than the room that is left
 pub room-past : (start long end : ℕ) → start ≤ end → ltb (end - start) long ≡ ltb end (start + long)

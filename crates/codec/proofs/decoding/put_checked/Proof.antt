@@ -1,13 +1,9 @@
 -- A code word passes the second check.
 use borrow.Author.Needs.{needs}
-use mathlib.Core.Path.{_≡_, _∙_, refl, sym}
+use mathlib.Core.Path.{_≡_, refl, sym}
 use mathlib.Core.Bool.{Bool, true, false, not}
-use mathlib.Core.List.{List}
-use Prim.Native.Nat.{ℕ}
 use native.Mathlib.Omega.{arith}
-use lib.ListN.{length}
-use lib.Seq.{paste, take-all}
-use Rattle.bits.proofs.Turns.{copied-front}
+use Rattle.bits.proofs.Turns.{copied-whole}
 use borrow.Author.Needs.{needs}
 use Rattle.codec.proofs.decoding.put_checked.Statement.{statement}
 use Rattle.codec.proofs.decoding.put_checked.Tie as tie
@@ -15,9 +11,6 @@ use Rattle.codec.proofs.decoding.put_checked.Tie as tie
 denied : (b : Bool) → not b ≡ true → b ≡ false
 denied true n = sym n
 denied false n = refl
-
-copied : (word mended copy : List ℕ) → length word ≡ length mended → length copy ≡ length word → copy ≡ paste word 0 mended (length mended) → copy ≡ mended
-copied word mended copy l k e = sym (take-all (length mended) copy (omega arith)) ∙ copied-front word mended copy e
 
 vanish-requires : tie.Need-vanish-requires
 vanish-requires c κs = search needs
@@ -40,7 +33,7 @@ same-length-2 c = search needs
 returns-2 : tie.Need-returns-2
 returns-2 c =
     let p = c .before .before .before .before .before .before .before .before .before .before .before .before .before .before .before .before .pre in
-    record { answers = refl; is-word = copied (c .before .before .before .before .before .before .before .before .before .before .before .before .before .before .before .before .args .word .now) (c .before .before .before .before .before .before .before .before .before .before .before .before .before .before .before .before .args .mended .now) _ (p .3) (c .before .before .before .before .before .before .copy-at .kept .0) (c .before .before .before .before .before .before .copy-at .ensures); is-list = c .before .before .put-list .ensures }
+    record { answers = refl; is-word = copied-whole (c .before .before .before .before .before .before .before .before .before .before .before .before .before .before .before .before .args .word .now) (c .before .before .before .before .before .before .before .before .before .before .before .before .before .before .before .before .args .mended .now) _ (p .3) (c .before .before .before .before .before .before .copy-at .kept .0) (c .before .before .before .before .before .before .copy-at .ensures); is-list = c .before .before .put-list .ensures }
 
 pub put-checked-spec : {M : Type 1} → statement M
 put-checked-spec =

@@ -1,0 +1,52 @@
+-- The bits first, then the sums.
+use mathlib.Core.Path.{_≡_}
+use lib.ListN.{length}
+use native.Mathlib.Omega.{arith}
+use mathlib.Core.Path.{sym}
+use lib.Seq.{length-take-le}
+use Rattle.field.proofs.Range.{sizes}
+use Rattle.kept.proofs.RecordLaws.{bad-bits, bad-sums}
+use borrow.Author.Needs.{needs}
+use Rattle.kept.proofs.checking.is_bad.Statement.{statement}
+use Rattle.kept.proofs.checking.is_bad.Tie as tie
+
+array-share-prefix-bits : tie.Need-array-share-prefix-bits
+array-share-prefix-bits c = let l : length (c .before .args .kept .bits) ≡ 1023 = search needs in let s = sizes (c .before .pre .0 .listed) in omega (arith, l, c .before .pre .1)
+
+slice-aggregate-has-bad-bit : tie.Need-slice-aggregate-has-bad-bit
+slice-aggregate-has-bad-bit c = let l : length (c .before .before .args .kept .bits) ≡ 1023 = search needs in let s = sizes (c .before .before .pre .0 .listed) in sym (length-take-le (c .before .before .args .n) (c .before .before .args .kept .bits) (omega (arith, l, c .before .before .pre .1)))
+
+has-bad-bit-requires : tie.Need-has-bad-bit-requires
+has-bad-bit-requires c κs = search needs
+
+returns : tie.Need-returns
+returns c = bad-bits (c .before .before .before .before .args .kept) (c .before .before .before .before .pre .1) (c .before .has-bad-bit .ensures) (c .if1 .taken)
+
+add-some-at-least : tie.Need-add-some-at-least
+add-some-at-least c = let s = sizes (c .before .before .before .before .before .pre .0 .listed) in omega (arith, c .before .before .before .before .before .pre .1)
+
+array-share-prefix-sums : tie.Need-array-share-prefix-sums
+array-share-prefix-sums c = let l : length (c .before .before .before .before .before .args .kept .sums) ≡ 255 = search needs in omega (arith, l, c .before .before .before .before .before .pre .0 .most)
+
+slice-aggregate-some-at-least : tie.Need-slice-aggregate-some-at-least
+slice-aggregate-some-at-least c = let l : length (c .before .before .before .before .before .before .args .kept .sums) ≡ 255 = search needs in sym (length-take-le (c .before .before .before .before .before .before .args .kept .t) (c .before .before .before .before .before .before .args .kept .sums) (omega (arith, l, c .before .before .before .before .before .before .pre .0 .most)))
+
+some-at-least-requires : tie.Need-some-at-least-requires
+some-at-least-requires c κs = search needs
+
+returns-2 : tie.Need-returns-2
+returns-2 c = bad-sums (c .before .before .before .before .before .before .before .args .kept) (c .before .before .before .before .before .before .before .pre .1) (c .before .before .before .before .has-bad-bit .ensures) (c .before .before .before .before .before .before .before .pre .0 .listed) (c .before .before .before .if1 .left) (c .some-at-least .ensures)
+
+pub is-bad-spec : {M : Type 1} → statement M
+is-bad-spec =
+    tie.close
+    (tie.spec
+    array-share-prefix-bits
+    slice-aggregate-has-bad-bit
+    has-bad-bit-requires
+    returns
+    add-some-at-least
+    array-share-prefix-sums
+    slice-aggregate-some-at-least
+    some-at-least-requires
+    returns-2)

@@ -1,0 +1,50 @@
+-- What the search tells decides.
+use mathlib.Core.Path.{_≡_, refl}
+use native.Mathlib.Omega.{arith}
+use lib.ListN.{length}
+use Rattle.codec.proofs.DecodeSteps.{told-places, told-nothing}
+use Rattle.kept.proofs.DecodeKeptLaws.{finds-none}
+use borrow.Author.Needs.{needs}
+use Rattle.kept.proofs.decoding.mend_with.Statement.{statement}
+use Rattle.kept.proofs.decoding.mend_with.Tie as tie
+
+locate-requires : tie.Need-locate-requires
+locate-requires c κs = search needs
+
+enum-known-answer : tie.Need-enum-known-answer
+enum-known-answer c = search needs
+
+slice-aggregate-put : tie.Need-slice-aggregate-put
+slice-aggregate-put c = search needs
+
+put-requires : tie.Need-put-requires
+put-requires c κs = let w = told-places (c .before .before .before .before .before .before .before .locate .ensures) (c .before .before .before .before .answer .given .1) in let l : length (c .before .before .before .before .before .before .before .locate .result .places) ≡ 255 = search needs in (c .before .before .before .before .before .before .before .before .before .before .before .before .before .before .before .pre .0, omega (arith, l, w .0), w .1)
+
+enum-told : tie.Need-enum-told
+enum-told c = search needs
+
+same-length : tie.Need-same-length
+same-length c = search needs
+
+same-length-2 : tie.Need-same-length-2
+same-length-2 c = search needs
+
+returns : tie.Need-returns
+returns c = search needs
+
+returns-2 : tie.Need-returns-2
+returns-2 c = (finds-none (told-nothing (c .before .before .before .locate .ensures) (c .enum-told .given .1)), λ n. (refl, refl))
+
+pub mend-with-spec : {M : Type 1} → statement M
+mend-with-spec =
+    tie.close
+    (tie.spec
+    locate-requires
+    enum-known-answer
+    slice-aggregate-put
+    put-requires
+    enum-told
+    same-length
+    same-length-2
+    returns
+    returns-2)

@@ -1,0 +1,5 @@
+pub mod Record
+pub mod Open
+pub mod Splice
+pub mod DecodeKept
+pub mod Work

@@ -1,0 +1,30 @@
+// The kept record: Open, Splice, Decode kept.
+
+mod checking;
+mod decoding;
+mod opening;
+mod splicing;
+
+pub use decoding::decode_kept;
+pub use opening::open;
+use sheet::Refusal;
+pub use splicing::splice;
+
+// A received word kept with the odd sums of it, place by place.
+#[repr(C)]
+pub struct Kept {
+    pub m: usize,
+    pub t: usize,
+    pub bits: [u8; 1023],
+    pub sums: [u16; 255],
+}
+
+pub enum Outcome {
+    Done,
+    Refused(Refusal),
+}
+
+pub struct Answer {
+    pub outcome: Outcome,
+    pub record: Kept,
+}

@@ -1,0 +1,120 @@
+// Splice: a stretch of a kept word replaced, and its sums brought up to date by the places that changed.
+
+ghost use mathlib.Core.Path.{_≡_};
+ghost use Prim.Native.Nat.{_+_, _≤_, _<_};
+ghost use lib.ListN.{length};
+ghost use Rattle.field.specs.Power.{nOf};
+ghost use Rattle.field.specs.Tables.{Tables};
+ghost use Rattle.codes.specs.Look.{Accepted};
+ghost use Rattle.kept.specs.declared.Outcome.the-variants.{Refused};
+ghost use Rattle.kept.specs.Splice.{Splices, Spliced};
+ghost use Rattle.kept.specs.Work.{PlaceSpliced, StretchSpliced};
+use crate::Answer;
+use crate::Kept;
+use crate::Outcome;
+use crate::checking;
+use codes::Look;
+use sheet::Refusal;
+
+pub fn splice(kept: Kept, start: usize, stretch: &[u8]) -> Answer
+    ensures { λ r. ⌜ Splices kept start (now (stretch .entry)) r ⌝ }
+{
+    let look = codes::look_up(kept.m, kept.t);
+    match look {
+        Look::Row { row: _, k: _ } => splice_listed(kept, start, stretch),
+        Look::Refused(r) => refused(r, kept),
+    }
+}
+
+// The same for a listed code.
+fn splice_listed(kept: Kept, start: usize, stretch: &[u8]) -> Answer
+    requires { ⌜ Accepted (kept .m) (kept .t) ⌝ }
+    ensures { λ r. ⌜ Splices kept start (now (stretch .entry)) r ⌝ }
+{
+    let n = field::n_of(kept.m);
+    let wrong = checking::is_bad(kept, n);
+    let past = bits::runs_past(start, stretch.len(), n);
+    let bad = checking::has_bad_bit(stretch);
+    if wrong {
+        return refused(Refusal::RecordContents, kept);
+    }
+    if past {
+        return refused(Refusal::StretchEnd, kept);
+    }
+    if bad {
+        return refused(Refusal::BitAboveOne, kept);
+    }
+    Answer {
+        outcome: Outcome::Done,
+        record: spliced(kept, start, stretch),
+    }
+}
+
+// Past the checks: the two tables for this m, and the work.
+fn spliced(kept: Kept, start: usize, stretch: &[u8]) -> Kept
+    requires { ⌜ Accepted (kept .m) (kept .t) × (start + length (now stretch) ≤ nOf (kept .m)) ⌝ }
+    ensures { λ r. ⌜ Spliced kept start (now (stretch .entry)) r ⌝ }
+{
+    let m = kept.m;
+    let t = kept.t;
+    let mut bits = kept.bits;
+    let mut sums = kept.sums;
+    let mut powers = field::powers_space();
+    let mut logs = field::logs_space();
+    field::fill_powers(m, &mut powers);
+    field::fill_logs(m, &powers, &mut logs);
+    splice_stretch(m, &powers, &logs, t, start, stretch, &mut bits, &mut sums);
+    Kept { m, t, bits, sums }
+}
+
+fn splice_stretch(
+    m: usize,
+    powers: &[u16],
+    logs: &[u16],
+    t: usize,
+    start: usize,
+    stretch: &[u8],
+    bits: &mut [u8],
+    sums: &mut [u16],
+)
+    requires { ⌜ Tables m (now powers) (now logs) × (start + length (now stretch) ≤ nOf m) × (nOf m ≤ length (now bits)) × (t ≤ length (now sums)) ⌝ }
+    ensures { λ _. ⌜ StretchSpliced m t start (now (stretch .entry)) (now (bits .entry)) (now (sums .entry)) (now (bits .exit)) (now (sums .exit)) (length (now (stretch .entry))) ⌝ }
+{
+    let mut i = 0;
+    while i < stretch.len() {
+        let b = stretch[i];
+        splice_place(m, powers, logs, t, b, start + i, bits, sums);
+        i += 1;
+    }
+}
+
+// Where the place does not hold b it comes to hold it, and the sums are brought up to date.
+fn splice_place(
+    m: usize,
+    powers: &[u16],
+    logs: &[u16],
+    t: usize,
+    b: u8,
+    p: usize,
+    bits: &mut [u8],
+    sums: &mut [u16],
+)
+    requires { ⌜ Tables m (now powers) (now logs) × (p < nOf m) × (p < length (now bits)) × (t ≤ length (now sums)) ⌝ }
+    ensures { λ _. ⌜ PlaceSpliced m t b p (now (bits .entry)) (now (sums .entry)) (now (bits .exit)) (now (sums .exit)) ⌝ }
+{
+    let old = bits[p];
+    if old != b {
+        bits[p] = b;
+        sums::add_place(m, powers, logs, p, t, sums);
+    }
+}
+
+// A refused Splice gives back the record it got.
+fn refused(r: Refusal, kept: Kept) -> Answer
+    ensures { λ a. ⌜ (a .outcome ≡ Refused r) × (a .record ≡ kept) ⌝ }
+{
+    Answer {
+        outcome: Outcome::Refused(r),
+        record: kept,
+    }
+}
