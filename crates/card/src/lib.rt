@@ -1,10 +1,17 @@
 // The operations under C names, each a thin call of the proved one.
 
-ghost use Rattle.card.specs.Answers.{DescribesAs, EncodesAs, DecodesAs, EditsAs};
+ghost use mathlib.Core.Path.{_≡_};
+ghost use Rattle.kept.specs.Record.{outcomeNumber};
+ghost use Rattle.card.specs.Answers.{DescribesAs, EncodesAs, DecodesAs, EditsAs, OpensAs, SplicesAs, DecodesKeptAs, MakesAs, ReadsAs};
 use codec::Decoded;
 use codec::Described;
 use codec::Edited;
 use codec::Encoded;
+use frame::Making;
+use frame::ReadFrame;
+use frame::Reading;
+use kept::Kept;
+use kept::Outcome;
 
 // The sheet's number, 0 where nothing is refused, and n and k.
 #[repr(C)]
@@ -18,6 +25,23 @@ pub struct DescribeAnswer {
 #[repr(C)]
 pub struct DecodeAnswer {
     pub number: u32,
+    pub wrong: usize,
+}
+
+// The sheet's number, 0 where nothing is refused, and the record.
+#[repr(C)]
+pub struct KeptAnswer {
+    pub number: u32,
+    pub record: Kept,
+}
+
+// The sheet's number, 0 where nothing is refused, the reading, and the number of wrong places.
+#[repr(C)]
+pub struct ReadAnswer {
+    pub number: u32,
+    pub house: u16,
+    pub poll: u16,
+    pub counter: u64,
     pub wrong: usize,
 }
 
@@ -81,5 +105,93 @@ pub extern "C" fn blentovar_edit(
     match answer {
         Edited::Done => 0,
         Edited::Refused(r) => sheet::number(r),
+    }
+}
+
+fn outcome_number(outcome: Outcome) -> u32
+    ensures { λ r. ⌜ r ≡ outcomeNumber outcome ⌝ }
+{
+    match outcome {
+        Outcome::Done => 0,
+        Outcome::Refused(r) => sheet::number(r),
+    }
+}
+
+#[no_mangle]
+pub extern "C" fn blentovar_open(m: usize, t: usize, word: &[u8]) -> KeptAnswer
+    ensures { λ r. ⌜ OpensAs m t (now (word .entry)) r ⌝ }
+{
+    let answer = kept::open(m, t, word);
+    let outcome = answer.outcome;
+    let record = answer.record;
+    let number = outcome_number(outcome);
+    KeptAnswer { number, record }
+}
+
+#[no_mangle]
+pub extern "C" fn blentovar_splice(kept: Kept, start: usize, stretch: &[u8]) -> KeptAnswer
+    ensures { λ r. ⌜ SplicesAs kept start (now (stretch .entry)) r ⌝ }
+{
+    let answer = kept::splice(kept, start, stretch);
+    let outcome = answer.outcome;
+    let record = answer.record;
+    let number = outcome_number(outcome);
+    KeptAnswer { number, record }
+}
+
+#[no_mangle]
+pub extern "C" fn blentovar_decode_kept(
+    kept: Kept,
+    word: &mut [u8],
+    list: &mut [u16],
+) -> DecodeAnswer
+    ensures { λ r. ⌜ DecodesKeptAs kept (now (word .entry)) (now (list .entry)) r (now (word .exit)) (now (list .exit)) ⌝ }
+{
+    let answer = kept::decode_kept(kept, word, list);
+    match answer {
+        Decoded::Mended(wrong) => DecodeAnswer { number: 0, wrong },
+        Decoded::Refused(r) => DecodeAnswer {
+            number: sheet::number(r),
+            wrong: 0,
+        },
+    }
+}
+
+#[no_mangle]
+pub extern "C" fn blentovar_make_frame(house: u16, poll: u16, counter: u64, frame: &mut [u8]) -> u32
+    ensures { λ r. ⌜ MakesAs house poll counter (now (frame .entry)) r (now (frame .exit)) ⌝ }
+{
+    let reading = Reading {
+        house,
+        poll,
+        counter,
+    };
+    let answer = frame::make(reading, frame);
+    match answer {
+        Making::Done => 0,
+        Making::Refused(r) => sheet::number(r),
+    }
+}
+
+#[no_mangle]
+pub extern "C" fn blentovar_read_frame(frame: &[u8]) -> ReadAnswer
+    ensures { λ r. ⌜ ReadsAs (now (frame .entry)) r ⌝ }
+{
+    let answer = frame::read(frame);
+    match answer {
+        ReadFrame::Read { reading, wrong } => ReadAnswer {
+            number: 0,
+            house: reading.house,
+            poll: reading.poll,
+            counter: reading.counter,
+            wrong,
+        },
+        ReadFrame::Refused(r) => ReadAnswer {
+            number: sheet::number(r),
+            house: 0,
+            poll: 0,
+            counter: 0,
+            wrong: 0,
+        },
     }
 }
