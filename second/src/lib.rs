@@ -10,6 +10,7 @@ pub mod kept;
 pub mod made_up;
 pub mod mending;
 pub mod nearest;
+pub mod night;
 pub mod polynomials;
 pub mod sheet;
 pub mod tables;

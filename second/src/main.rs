@@ -1,20 +1,31 @@
-//! Writes what one of the proved programs is to print.
+//! Writes what one of the proved programs is to print, or the bytes that it is to read.
 
-use second::{keeping, mending, trials};
-use std::io::Write;
+use second::frames::Link;
+use second::{keeping, mending, night, trials};
+use std::io::{Read, Write};
 
 fn main() {
     let subject = std::env::args().nth(1).unwrap_or_default();
-    let text = match subject.as_str() {
-        "keeping" => keeping::text(),
-        "mending" => mending::text(),
-        "trials" => trials::text(),
+    let bytes = match subject.as_str() {
+        "keeping" => keeping::text().into_bytes(),
+        "mending" => mending::text().into_bytes(),
+        "trials" => trials::text().into_bytes(),
+        "night" => night::frames(),
+        "listing" => Link::new().listing(&standard_input()).into_bytes(),
         _ => {
-            eprintln!("usage: second keeping|mending|trials");
+            eprintln!("usage: second keeping|mending|trials|night, or second listing < FRAMES");
             std::process::exit(2);
         }
     };
     std::io::stdout()
-        .write_all(text.as_bytes())
+        .write_all(&bytes)
         .expect("standard output takes the text");
+}
+
+fn standard_input() -> Vec<u8> {
+    let mut bytes = Vec::new();
+    std::io::stdin()
+        .read_to_end(&mut bytes)
+        .expect("standard input can be read");
+    bytes
 }

@@ -1,0 +1,65 @@
+//! A night of made-up readings as they might come in: most frames clean, some with a few wrong bits, some beyond mending.
+
+use crate::frames::{Link, Reading, FRAME_BYTES};
+use crate::made_up::MadeUp;
+
+const HOUSES: u16 = 40;
+const POLLS: u16 = 5;
+
+/// The frames of all houses, poll by poll, and a piece of a last one.
+pub fn frames() -> Vec<u8> {
+    let link = Link::new();
+    let mut made_up = MadeUp::new(20261115);
+    let mut bytes = Vec::new();
+    for poll in 1..=POLLS {
+        for house in 0..HOUSES {
+            bytes.extend(frame(&link, house, poll, &mut made_up));
+        }
+    }
+    bytes.extend([0; 7]);
+    bytes
+}
+
+fn frame(link: &Link, house: u16, poll: u16, made_up: &mut MadeUp) -> [u8; FRAME_BYTES] {
+    let reading = Reading {
+        house: house * 1021,
+        poll,
+        counter: counter(house, made_up),
+    };
+    let mut frame = link.make(reading);
+    match made_up.below(10) {
+        0 | 1 => flip(&mut frame, 1, 5, made_up),
+        2 => flip(&mut frame, 6, 23, made_up),
+        3 => flip(&mut frame, 24, 53, made_up),
+        4 if house % 4 == 1 => frame[FRAME_BYTES - 1] |= 1,
+        4 if house % 4 == 2 => frame = all_ones(),
+        _ => {}
+    }
+    frame
+}
+
+/// Houses 0 and 1 have the least and the greatest count there is.
+fn counter(house: u16, made_up: &mut MadeUp) -> u64 {
+    match house {
+        0 => 0,
+        1 => u64::MAX,
+        _ => made_up.below(1 << 15) as u64 * made_up.below(1 << 15) as u64 * 1000003,
+    }
+}
+
+/// Turns over from `least` to `most` of the 255 sent bits.
+fn flip(frame: &mut [u8; FRAME_BYTES], least: usize, most: usize, made_up: &mut MadeUp) {
+    let count = least + made_up.below(most - least + 1);
+    let mut bits = vec![0; 255];
+    made_up.flip(&mut bits, count);
+    for (sent, bit) in bits.iter().enumerate() {
+        frame[sent / 8] ^= bit << (7 - sent % 8);
+    }
+}
+
+/// A code word whose lead bits are wrong.
+fn all_ones() -> [u8; FRAME_BYTES] {
+    let mut frame = [255; FRAME_BYTES];
+    frame[FRAME_BYTES - 1] = 254;
+    frame
+}
