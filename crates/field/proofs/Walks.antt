@@ -1,23 +1,25 @@
 -- Walking through the table of powers: exponents go up by a step, and around where they reach n.
-use mathlib.Core.Path.{_≡_, _∙_, sym, ap, ap₂}
+use mathlib.Core.Path.{_≡_, _∙_, refl, sym, ap, ap₂, subst}
 use mathlib.Core.List.{List}
 use mathlib.Core.Logic.{_≢_}
-use Prim.Native.Nat.{ℕ, suc, _+_, _-_, _*_, _%_, _^_, _≤_, _<_}
-use native.Mathlib.Nat.{add-zero, mul-zero, mul-suc, mod-lt, mod-eq-of-lt, mod-eq-sub-mod}
-use native.Mathlib.Numerals.{add-one}
+use Prim.Native.Nat.{ℕ, _+_, _-_, _*_, _%_, _^_, _≤_, _<_}
+use native.Mathlib.Nat.{add-zero, mul-zero, mul-one, mul-comm, mul-add, mod-lt, mod-eq-of-lt, mod-eq-sub-mod}
+use native.Mathlib.Decide.{decLt}
+use borrow.Author.Count.{below-more}
 use native.Mathlib.Omega.{arith}
 use lib.Bits.{bitXor}
-use lib.ListN.{length, getD, set}
+use lib.ListN.{length, getD, length-set}
+use lib.Seq.{getD-set-same, getD-set-other}
 use Rattle.entries.specs.Entries.{Filled}
-use Rattle.entries.proofs.FillLaws.{fill-start, fill-next, fill-from, fill-as}
+use Rattle.entries.proofs.FillLaws.{fill-from, fill-as}
 use Rattle.field.specs.Sum.{_⊕_}
 use Rattle.field.specs.Product.{Listed, _⊗⟨_⟩_}
 use Rattle.field.specs.Power.{a, nOf, power}
-use Rattle.field.specs.Tables.{Tables}
-use Rattle.field.specs.Multiples.{plusWalk, plusMultiple}
+use Rattle.field.specs.Tables.{Powers, Tables}
+use Rattle.field.specs.Multiples.{plusWalk, plusMultiple, plusAt, plusFour, Added, Walked}
 use Rattle.field.proofs.SumLaws.{sum-zero, xor-sum}
 use Rattle.field.proofs.ProductLaws.{zero-product}
-use Rattle.field.proofs.PowerLaws.{power-add}
+use Rattle.field.proofs.PowerLaws.{power-add, power-mul}
 use Rattle.field.proofs.Order.{eight-bound, power-mod, every-power}
 
 -- once around at most
@@ -38,41 +40,182 @@ module _ {m : ℕ} (L : Listed m) where
   pub around-power : {n r : ℕ} (e : ℕ) → n ≡ nOf m → r ≡ e % n → power m a r ≡ power m a e
   around-power {n} {r} e is q = ap (power m a) (q ∙ ap (λ k. e % k) is) ∙ power-mod L e
 
--- the powers for the entries before j are added, and e is the next exponent
-pub record Walking (m from step count : ℕ) (before after : List ℕ) (e j : ℕ) : Type 0 where
-  pub within : j ≤ count
-  pub below : e < nOf m
-  pub here : power m a e ≡ power m a (from + step * j)
-  pub filled : Filled (plusWalk m from step before) j before after
-
-pub walking-start : {m from : ℕ} (step count : ℕ) (before : List ℕ) → from < nOf m → Walking m from step count before before from 0
-walking-start {m} {from} step count before h =
+-- one entry more, at place j
+added-next : {m i d j x : ℕ} (start step : ℕ) {before after : List ℕ} → Added m start step i d before after → j ≡ i + d → j < length before → x ≡ power m a (start + step * d)
+    → Added m start step i (d + 1) before (plusAt after j x)
+added-next {m} {i} {d} {j} {x} start step {before} {after} s e h p =
     record {
-      within = omega arith;
-      below = h;
-      here = ap (power m a) (sym (ap (λ z. from + z) (mul-zero step) ∙ add-zero from));
-      filled = fill-start _ before;
+      same = simp length-set (s .same);
+      holds = below-more _ d
+          (λ k l. getD-set-other after j (i + k) (bitXor (getD after j 0) x) 0 (λ z. omega arith) ∙ s .holds k l)
+          (ap (λ (q : ℕ). getD (plusAt after j x) q 0) (sym e)
+          ∙ getD-set-same after j (bitXor (getD after j 0) x) 0 (omega (arith, s .same))
+          ∙ xor-sum (getD after j 0) x
+          ∙ ap₂ (λ u v. u ⊕ v) (s .high j (omega arith) ∙ ap (λ (q : ℕ). getD before q 0) e) p);
+      low = λ k l. getD-set-other after j k (bitXor (getD after j 0) x) 0 (λ z. omega arith) ∙ s .low k l;
+      high = λ k l. getD-set-other after j k (bitXor (getD after j 0) x) 0 (λ z. omega arith) ∙ s .high k (omega arith);
     }
 
-pub walking-next : {m from step count n e j x r : ℕ} {before after : List ℕ} → Listed m → Walking m from step count before after e j → n ≡ nOf m → count ≤ length before → j < count
-    → x ≡ power m a e → r ≡ (e + step) % n → Walking m from step count before (set after j (bitXor (getD after j 0) x)) r (j + 1)
-walking-next {m} {from} {step} {count} {n} {e} {j} {x} {r} {before} {after} L s is l h p q =
+added-none : (m start step i : ℕ) (xs : List ℕ) → Added m start step i 0 xs xs
+added-none m start step i xs = record { same = refl; holds = λ k h. absurd (omega arith); low = λ k h. refl; high = λ k h. refl }
+
+-- an exponent that goes on by as many steps
+walked-on : {m : ℕ} → Listed m → (start step e d j i : ℕ) → power m a e ≡ power m a (start + step * j) → power m a d ≡ power m a (step * i) → power m a (e + d) ≡ power m a (start + step * (j + i))
+walked-on {m} L start step e d j i here q =
+    power-add L a e d
+    ∙ ap₂ (λ (u v : ℕ). u ⊗⟨ m ⟩ v) here q
+    ∙ sym (power-add L a (start + step * j) (step * i))
+    ∙ ap (power m a) onward
+  where
+    onward : start + step * j + step * i ≡ start + step * (j + i)
+    onward = omega (arith, mul-add step j i)
+
+pub walked-start : {m start : ℕ} (step i : ℕ) (before : List ℕ) → start < nOf m → Walked m start step i 0 before start before
+walked-start {m} {start} step i before h =
     record {
-      within = omega arith;
+      below = h;
+      here = ap (power m a) (sym (ap (λ z. start + z) (mul-zero step) ∙ add-zero start));
+      added = added-none m start step i before;
+    }
+
+pub walked-next : {m start step i d n e j x r : ℕ} {before after : List ℕ} → Listed m → Walked m start step i d before e after → n ≡ nOf m → j ≡ i + d → j < length before
+    → x ≡ power m a e → r ≡ (e + step) % n → Walked m start step i (d + 1) before r (plusAt after j x)
+walked-next {m} {start} {step} {i} {d} {n} {e} L s is at l p q =
+    record {
       below = around-below L (e + step) is q;
-      here =
-          around-power L (e + step) is q
-          ∙ power-add L a e step
-          ∙ ap (λ z. z ⊗⟨ m ⟩ power m a step) (s .here)
-          ∙ sym (power-add L a (from + step * j) step)
-          ∙ ap (power m a) onward;
-      filled = fill-next (s .filled) (omega arith) (xor-sum (getD after j 0) x ∙ ap₂ (λ u v. u ⊕ v) (s .filled .rest j (omega arith)) (p ∙ s .here));
+      here = around-power L (e + step) is q ∙ walked-on L start step e step d 1 (s .here) (ap (power m a) (sym (mul-one step)));
+      added = added-next start step (s .added) at l (p ∙ s .here);
+    }
+
+pub walked-to : {m start step i d d′ e : ℕ} {before after : List ℕ} → Walked m start step i d before e after → d ≡ d′ → Walked m start step i d′ before e after
+walked-to {m} {start} {step} {i} {e = e} {before} {after} s q = subst (λ (z : ℕ). Walked m start step i z before e after) q s
+
+pub walked-by : {m start step i d e : ℕ} {before after after′ : List ℕ} → after′ ≡ after → Walked m start step i d before e after → Walked m start step i d before e after′
+walked-by {m} {start} {step} {i} {d} {e} {before} q s = subst (λ (xs : List ℕ). Walked m start step i d before e xs) (sym q) s
+
+-- the exponents of two, three and four steps, brought below n
+pub record Strides (m step n two three four : ℕ) : Type 0 where
+  pub is-n : n ≡ nOf m
+  pub short : step < nOf m
+  pub second : two ≡ 2 * step % n
+  pub third : three ≡ (two + step) % n
+  pub fourth : four ≡ 2 * two % n
+
+pub strides : {m n one two three four : ℕ} (step : ℕ) → Listed m → n ≡ nOf m → one ≡ step % n → two ≡ 2 * one % n → three ≡ (two + one) % n → four ≡ 2 * two % n → Strides m one n two three four
+strides step L is a b c d = record { is-n = is; short = around-below L step is a; second = b; third = c; fourth = d }
+
+pub record Within (m e step two three four : ℕ) : Type 0 where
+  pub first : e + step < 2 * nOf m
+  pub second : e + two < 2 * nOf m
+  pub third : e + three < 2 * nOf m
+  pub fourth : e + four < 2 * nOf m
+
+module _ {m step n two three four : ℕ} (L : Listed m) (S : Strides m step n two three four) where
+  pub strides-within : {e : ℕ} → e < nOf m → Within m e step two three four
+  strides-within k =
+      let b = around-below L (2 * step) (S .is-n) (S .second) in
+      let c = around-below L (two + step) (S .is-n) (S .third) in
+      let d = around-below L (2 * two) (S .is-n) (S .fourth) in
+      record { first = omega (arith, S .short); second = omega arith; third = omega arith; fourth = omega arith }
+
+  two-steps : power m a two ≡ power m a (step * 2)
+  two-steps = around-power L (2 * step) (S .is-n) (S .second) ∙ ap (power m a) (mul-comm 2 step)
+
+  three-steps : power m a three ≡ power m a (step * 3)
+  three-steps =
+      around-power L (two + step) (S .is-n) (S .third)
+      ∙ power-add L a two step
+      ∙ ap (λ (z : ℕ). z ⊗⟨ m ⟩ power m a step) two-steps
+      ∙ sym (power-add L a (step * 2) step)
+      ∙ ap (power m a) sum
+    where
+      sum : step * 2 + step ≡ step * 3
+      sum = omega arith
+
+  four-steps : power m a four ≡ power m a (step * 4)
+  four-steps =
+      around-power L (2 * two) (S .is-n) (S .fourth)
+      ∙ ap (power m a) twice
+      ∙ power-add L a two two
+      ∙ ap (λ (z : ℕ). z ⊗⟨ m ⟩ z) two-steps
+      ∙ sym (power-add L a (step * 2) (step * 2))
+      ∙ ap (power m a) sum
+    where
+      twice : 2 * two ≡ two + two
+      twice = omega arith
+
+      sum : step * 2 + step * 2 ≡ step * 4
+      sum = omega arith
+
+  -- four entries more
+  pub walked-four : {start i d e j r : ℕ} {powers before after : List ℕ} → Powers m powers → Walked m start step i d before e after → j ≡ i + d → j + 4 ≤ length before → r ≡ (e + four) % n
+      → Walked m start step i (d + 4) before r (plusFour powers e (e + step) (e + two) (e + three) j after)
+  walked-four {start} {i} {d} {e} {j} {r} {powers} {before} {after} P s at l q =
+      record {
+        below = around-below L (e + four) (S .is-n) q;
+        here = around-power L (e + four) (S .is-n) q ∙ walked-on L start step e four d 4 (s .here) four-steps;
+        added = subst (λ (z : ℕ). Added m start step i z before (plusFour powers e (e + step) (e + two) (e + three) j after)) last fourth;
+      }
+    where
+      W : Within m e step two three four
+      W = strides-within (s .below)
+
+      first : Added m start step i (d + 1) before (plusAt after j (getD powers e 0))
+      first = added-next start step (s .added) at (omega arith) (P .holds e (omega (arith, s .below)) ∙ s .here)
+
+      second : Added m start step i (d + 1 + 1) before (plusAt (plusAt after j (getD powers e 0)) (j + 1) (getD powers (e + step) 0))
+      second =
+          added-next start step first (omega arith) (omega arith)
+          (P .holds (e + step) (W .first) ∙ walked-on L start step e step d 1 (s .here) (ap (power m a) (sym (mul-one step))))
+
+      third : Added m start step i (d + 2 + 1) before (plusAt (plusAt (plusAt after j (getD powers e 0)) (j + 1) (getD powers (e + step) 0)) (j + 2) (getD powers (e + two) 0))
+      third =
+          added-next start step (subst (λ (z : ℕ). Added m start step i z before (plusAt (plusAt after j (getD powers e 0)) (j + 1) (getD powers (e + step) 0))) two-more second) (omega arith) (omega arith)
+          (P .holds (e + two) (W .second) ∙ walked-on L start step e two d 2 (s .here) two-steps)
+        where
+          two-more : d + 1 + 1 ≡ d + 2
+          two-more = omega arith
+
+      fourth : Added m start step i (d + 3 + 1) before (plusFour powers e (e + step) (e + two) (e + three) j after)
+      fourth =
+          added-next start step
+          (subst (λ (z : ℕ). Added m start step i z before (plusAt (plusAt (plusAt after j (getD powers e 0)) (j + 1) (getD powers (e + step) 0)) (j + 2) (getD powers (e + two) 0))) three-more third) (omega arith) (omega arith)
+          (P .holds (e + three) (W .third) ∙ walked-on L start step e three d 3 (s .here) three-steps)
+        where
+          three-more : d + 2 + 1 ≡ d + 3
+          three-more = omega arith
+
+      last : d + 3 + 1 ≡ d + 4
+      last = omega arith
+
+-- the first entries and then the others: a walk by the step that was brought below n
+pub walk-done : {m n one c d e count : ℕ} (from step : ℕ) {before middle after : List ℕ} → Listed m → n ≡ nOf m → one ≡ step % n → Walked m from one 0 c before e middle → Added m e one c d middle after → c + d ≡ count
+    → Filled (plusWalk m from step before) count before after
+walk-done {m} {n} {one} {c} {d} {e} {count} from step {before} {middle} {after} L is q s u end =
+    record {
+      same = u .same ∙ s .added .same;
+      holds = λ i h. pick i h (decLt i c);
+      rest = λ i h. u .high i (omega arith) ∙ s .added .high i (omega arith);
     }
   where
-    onward : from + step * j + step ≡ from + step * (j + 1)
-    onward =
-        let d : step * (j + 1) ≡ step * suc j = ap (λ z. step * z) (add-one j) in
-        omega (arith, mul-suc step j)
+    same-step : (i : ℕ) → power m a (one * i) ≡ power m a (step * i)
+    same-step i = power-mul L a one i ∙ ap (λ (z : ℕ). power m z i) (around-power L step is q) ∙ sym (power-mul L a step i)
+
+    near : (i : ℕ) → power m a (from + one * i) ≡ power m a (from + step * i)
+    near i = power-add L a from (one * i) ∙ ap (λ (z : ℕ). power m a from ⊗⟨ m ⟩ z) (same-step i) ∙ sym (power-add L a from (step * i))
+
+    place : (i : ℕ) → c ≤ i → c + (i - c) ≡ i
+    place i h = omega arith
+
+    pick : (i : ℕ) → i < count → Dec (i < c) → getD after i 0 ≡ getD before i 0 ⊕ power m a (from + step * i)
+    pick i h (yes l) =
+        let z : 0 + i ≡ i = omega arith in
+        u .low i l ∙ subst (λ (k : ℕ). getD middle k 0 ≡ getD before k 0 ⊕ power m a (from + one * i)) z (s .added .holds i l) ∙ ap (λ (z : ℕ). getD before i 0 ⊕ z) (near i)
+    pick i h (no l) =
+        let z = place i (omega arith) in
+        subst (λ (k : ℕ). getD after k 0 ≡ getD middle k 0 ⊕ power m a (e + one * (i - c))) z (u .holds (i - c) (omega arith))
+        ∙ ap₂ (λ x y. x ⊕ y) (s .added .high i (omega arith))
+        (walked-on L from one e (one * (i - c)) c (i - c) (s .here) refl ∙ ap (λ (k : ℕ). power m a (from + one * k)) z ∙ near i)
 
 -- the logarithm of x, as the table has it
 pub record Logarithm (m : ℕ) (logs : List ℕ) (x : ℕ) : Type 0 where

@@ -1,61 +1,81 @@
--- The loop keeps: the powers for the entries before j are added, and e is the next exponent.
-use Prim.Native.Nat.{_-_}
+-- The loop keeps: the entries before j are done, as many left as go by fours, and e is the next exponent.
+use mathlib.Core.Path.{_≡_, _∙_}
+use Prim.Native.Nat.{_+_, _-_, _*_, _%_, _≤_}
 use native.Mathlib.Omega.{arith}
-use Rattle.field.proofs.Walks.{Walking, walking-start, walking-next}
-use Rattle.entries.proofs.FillLaws.{fill-done}
+use Rattle.field.specs.Multiples.{Walked}
+use Rattle.field.proofs.Range.{sizes}
+use Rattle.field.proofs.Walks.{around-below, walked-start, walked-to, walked-by, walked-four, strides, strides-within, walk-done}
 use Rattle.field.proofs.add_walk.Statement.{statement}
 use Rattle.field.proofs.add_walk.Tie as tie
 
 abbrev Inv-loop : tie.InvT-loop
-Inv-loop m powers from step count entries₀ n e₀ j₀ entries e j = Walking m from step count entries₀ entries e j
+Inv-loop m powers from step count entries₀ n one two three four j₀ e₀ entries j e = (j₀ ≤ j) × (j ≤ count) × ((count - j) % 4 ≡ 0) × Walked m e₀ one j₀ (j - j₀) entries₀ e entries
 
 abbrev μ-loop : tie.MeasureT-loop
-μ-loop m powers from step count entries₀ n e₀ j₀ entries e j = count - j
+μ-loop m powers from step count entries₀ n one two three four j₀ e₀ entries j e = count - j
 
 n-of-requires : tie.Need-n-of-requires Inv-loop μ-loop
 n-of-requires c κs = c .before .before .pre .0
 
-loop-holds : tie.Need-loop-holds Inv-loop μ-loop
-loop-holds c = walking-start _ _ _ (c .before .before .before .pre .2)
+around-requires : tie.Need-around-requires Inv-loop μ-loop
+around-requires c κs = let z = sizes (c .before .before .before .pre .0) in omega (arith, c .before .before .before .pre .3, c .n-of .ensures)
 
-mul-s : tie.Need-mul-s Inv-loop μ-loop
-mul-s c = omega arith
+mul-around : tie.Need-mul-around Inv-loop μ-loop
+mul-around c = let z = sizes (c .before .before .before .before .pre .0) in omega (arith, around-below (c .before .before .before .before .pre .0) (c .before .before .before .before .args .step) (c .before .n-of .ensures) (c .around .ensures))
 
-slice-read-s : tie.Need-slice-read-s Inv-loop μ-loop
-slice-read-s c = omega (arith, c .before .before .loop .inv .filled .same)
-
-mul-entries : tie.Need-mul-entries Inv-loop μ-loop
-mul-entries c = omega arith
-
-shared-slice-read-entries : tie.Need-shared-slice-read-entries Inv-loop μ-loop
-shared-slice-read-entries c = omega arith
-
-mul-entries-2 : tie.Need-mul-entries-2 Inv-loop μ-loop
-mul-entries-2 c = omega arith
-
-slice-write-entries : tie.Need-slice-write-entries Inv-loop μ-loop
-slice-write-entries c = omega (arith, c .before .before .before .loop .inv .filled .same)
+around-requires-2 : tie.Need-around-requires-2 Inv-loop μ-loop
+around-requires-2 c κs = let z = sizes (c .before .before .before .before .pre .0) in omega (arith, around-below (c .before .before .before .before .pre .0) (c .before .before .before .before .args .step) (c .before .n-of .ensures) (c .around .ensures), c .before .n-of .ensures)
 
 add-around : tie.Need-add-around Inv-loop μ-loop
-add-around c = omega arith
+add-around c = let z = sizes (c .before .before .before .before .before .pre .0) in omega (arith, around-below (c .before .before .before .before .before .pre .0) (c .before .before .before .before .before .args .step) (c .before .before .n-of .ensures) (c .before .around .ensures), around-below (c .before .before .before .before .before .pre .0) (2 * c .before .around .result) (c .before .before .n-of .ensures) (c .around2 .ensures))
 
-around-requires : tie.Need-around-requires Inv-loop μ-loop
-around-requires c κs = omega arith
+around-requires-3 : tie.Need-around-requires-3 Inv-loop μ-loop
+around-requires-3 c κs = let z = sizes (c .before .before .before .before .before .pre .0) in omega (arith, around-below (c .before .before .before .before .before .pre .0) (c .before .before .before .before .before .args .step) (c .before .before .n-of .ensures) (c .before .around .ensures), around-below (c .before .before .before .before .before .pre .0) (2 * c .before .around .result) (c .before .before .n-of .ensures) (c .around2 .ensures), c .before .before .n-of .ensures)
+
+mul-around-2 : tie.Need-mul-around-2 Inv-loop μ-loop
+mul-around-2 c = let z = sizes (c .before .before .before .before .before .before .pre .0) in omega (arith, around-below (c .before .before .before .before .before .before .pre .0) (2 * c .before .before .around .result) (c .before .before .before .n-of .ensures) (c .before .around2 .ensures))
+
+around-requires-4 : tie.Need-around-requires-4 Inv-loop μ-loop
+around-requires-4 c κs = let z = sizes (c .before .before .before .before .before .before .pre .0) in omega (arith, around-below (c .before .before .before .before .before .before .pre .0) (2 * c .before .before .around .result) (c .before .before .before .n-of .ensures) (c .before .around2 .ensures), c .before .before .before .n-of .ensures)
+
+add-first-requires : tie.Need-add-first-requires Inv-loop μ-loop
+add-first-requires c κs = let p = c .before .before .before .before .before .before .before .before .pre in (p .0, p .1, p .2, around-below (c .before .before .before .before .before .before .before .before .pre .0) (c .before .before .before .before .before .before .before .before .args .step) (c .before .before .before .before .before .n-of .ensures) (c .before .before .before .before .around .ensures), omega (arith, p .4))
+
+loop-holds : tie.Need-loop-holds Inv-loop μ-loop
+loop-holds c = (omega arith, omega arith, omega arith, walked-to (walked-start _ _ _ (c .before .before .add-first .ensures .below)) (omega arith))
+
+add-add-four : tie.Need-add-add-four Inv-loop μ-loop
+add-add-four c = let z = sizes (c .before .before .before .before .before .before .before .before .before .before .before .before .before .pre .0) in let b = strides-within (c .before .before .before .before .before .before .before .before .before .before .before .before .before .pre .0) (strides (c .before .before .before .before .before .before .before .before .before .before .before .before .before .args .step) (c .before .before .before .before .before .before .before .before .before .before .before .before .before .pre .0) (c .before .before .before .before .before .before .before .before .before .before .n-of .ensures) (c .before .before .before .before .before .before .before .before .before .around .ensures) (c .before .before .before .before .before .before .before .before .around2 .ensures) (c .before .before .before .before .before .before .before .around3 .ensures) (c .before .before .before .before .before .before .around4 .ensures)) (c .before .loop .inv .3 .below) in omega (arith, b .first)
+
+add-add-four-2 : tie.Need-add-add-four-2 Inv-loop μ-loop
+add-add-four-2 c = let z = sizes (c .before .before .before .before .before .before .before .before .before .before .before .before .before .pre .0) in let b = strides-within (c .before .before .before .before .before .before .before .before .before .before .before .before .before .pre .0) (strides (c .before .before .before .before .before .before .before .before .before .before .before .before .before .args .step) (c .before .before .before .before .before .before .before .before .before .before .before .before .before .pre .0) (c .before .before .before .before .before .before .before .before .before .before .n-of .ensures) (c .before .before .before .before .before .before .before .before .before .around .ensures) (c .before .before .before .before .before .before .before .before .around2 .ensures) (c .before .before .before .before .before .before .before .around3 .ensures) (c .before .before .before .before .before .before .around4 .ensures)) (c .before .loop .inv .3 .below) in omega (arith, b .second)
+
+add-add-four-3 : tie.Need-add-add-four-3 Inv-loop μ-loop
+add-add-four-3 c = let z = sizes (c .before .before .before .before .before .before .before .before .before .before .before .before .before .pre .0) in let b = strides-within (c .before .before .before .before .before .before .before .before .before .before .before .before .before .pre .0) (strides (c .before .before .before .before .before .before .before .before .before .before .before .before .before .args .step) (c .before .before .before .before .before .before .before .before .before .before .before .before .before .pre .0) (c .before .before .before .before .before .before .before .before .before .before .n-of .ensures) (c .before .before .before .before .before .before .before .before .before .around .ensures) (c .before .before .before .before .before .before .before .before .around2 .ensures) (c .before .before .before .before .before .before .before .around3 .ensures) (c .before .before .before .before .before .before .around4 .ensures)) (c .before .loop .inv .3 .below) in omega (arith, b .third)
+
+add-four-requires : tie.Need-add-four-requires Inv-loop μ-loop
+add-four-requires c κs = let p = c .before .before .before .before .before .before .before .before .before .before .before .before .before .before .pre in let b = strides-within (c .before .before .before .before .before .before .before .before .before .before .before .before .before .before .pre .0) (strides (c .before .before .before .before .before .before .before .before .before .before .before .before .before .before .args .step) (c .before .before .before .before .before .before .before .before .before .before .before .before .before .before .pre .0) (c .before .before .before .before .before .before .before .before .before .before .before .n-of .ensures) (c .before .before .before .before .before .before .before .before .before .before .around .ensures) (c .before .before .before .before .before .before .before .before .before .around2 .ensures) (c .before .before .before .before .before .before .before .before .around3 .ensures) (c .before .before .before .before .before .before .before .around4 .ensures)) (c .before .before .loop .inv .3 .below) in let l = c .before .before .loop .inv .3 .added .same in let k = c .before .before .before .before .before .add-first .ensures .added .same in (omega (arith, p .1 .long, c .before .before .loop .inv .3 .below), omega (arith, p .1 .long, b .first), omega (arith, p .1 .long, b .second), omega (arith, p .1 .long, b .third), omega (arith, p .4, l, k, c .before .before .loop .inv .2))
+
+add-around-2 : tie.Need-add-around-2 Inv-loop μ-loop
+add-around-2 c = let z = sizes (c .before .before .before .before .before .before .before .before .before .before .before .before .before .before .before .before .before .pre .0) in let b = strides-within (c .before .before .before .before .before .before .before .before .before .before .before .before .before .before .before .before .before .pre .0) (strides (c .before .before .before .before .before .before .before .before .before .before .before .before .before .before .before .before .before .args .step) (c .before .before .before .before .before .before .before .before .before .before .before .before .before .before .before .before .before .pre .0) (c .before .before .before .before .before .before .before .before .before .before .before .before .before .before .n-of .ensures) (c .before .before .before .before .before .before .before .before .before .before .before .before .before .around .ensures) (c .before .before .before .before .before .before .before .before .before .before .before .before .around2 .ensures) (c .before .before .before .before .before .before .before .before .before .before .before .around3 .ensures) (c .before .before .before .before .before .before .before .before .before .before .around4 .ensures)) (c .before .before .before .before .before .loop .inv .3 .below) in omega (arith, b .fourth)
+
+around-requires-5 : tie.Need-around-requires-5 Inv-loop μ-loop
+around-requires-5 c κs = let b = strides-within (c .before .before .before .before .before .before .before .before .before .before .before .before .before .before .before .before .before .pre .0) (strides (c .before .before .before .before .before .before .before .before .before .before .before .before .before .before .before .before .before .args .step) (c .before .before .before .before .before .before .before .before .before .before .before .before .before .before .before .before .before .pre .0) (c .before .before .before .before .before .before .before .before .before .before .before .before .before .before .n-of .ensures) (c .before .before .before .before .before .before .before .before .before .before .before .before .before .around .ensures) (c .before .before .before .before .before .before .before .before .before .before .before .before .around2 .ensures) (c .before .before .before .before .before .before .before .before .before .before .before .around3 .ensures) (c .before .before .before .before .before .before .before .before .before .before .around4 .ensures)) (c .before .before .before .before .before .loop .inv .3 .below) in omega (arith, b .fourth, c .before .before .before .before .before .before .before .before .before .before .before .before .before .before .n-of .ensures)
 
 add-j : tie.Need-add-j Inv-loop μ-loop
-add-j c = omega arith
+add-j c = omega (arith, c .before .before .before .before .before .before .loop .inv .2)
 
 loop-less : tie.Need-loop-less Inv-loop μ-loop
-loop-less c = omega arith
+loop-less c = omega (arith, c .before .before .before .before .before .before .loop .inv .2)
 
 loop-again : tie.Need-loop-again Inv-loop μ-loop
-loop-again c = let s = c .before .before .before .before .before .before .before .before in walking-next (s .pre .0) (c .before .before .before .before .loop .inv) (c .before .before .before .before .before .n-of .ensures) (s .pre .4) (c .before .before .before .loop-test .taken) (s .pre .1 .holds _ (omega (arith, c .before .before .before .before .loop .inv .below))) (c .around .ensures)
+loop-again c = let p = c .before .before .before .before .before .before .before .before .before .before .before .before .before .before .before .before .before .before .pre in let k = c .before .before .before .before .before .before .before .before .before .add-first .ensures .added .same in (omega arith, omega (arith, c .before .before .before .before .before .before .loop .inv .2), omega (arith, c .before .before .before .before .before .before .loop .inv .2), walked-by (c .before .before .before .add-four .ensures) (walked-to (walked-four (p .0) (strides (c .before .before .before .before .before .before .before .before .before .before .before .before .before .before .before .before .before .before .args .step) (c .before .before .before .before .before .before .before .before .before .before .before .before .before .before .before .before .before .before .pre .0) (c .before .before .before .before .before .before .before .before .before .before .before .before .before .before .before .n-of .ensures) (c .before .before .before .before .before .before .before .before .before .before .before .before .before .before .around .ensures) (c .before .before .before .before .before .before .before .before .before .before .before .before .before .around2 .ensures) (c .before .before .before .before .before .before .before .before .before .before .before .before .around3 .ensures) (c .before .before .before .before .before .before .before .before .before .before .before .around4 .ensures)) (p .1) (c .before .before .before .before .before .before .loop .inv .3) (omega (arith, c .before .before .before .before .before .before .loop .inv .0)) (omega (arith, p .4, k, c .before .before .before .before .before .before .loop .inv .2)) (c .around5 .ensures)) (omega (arith, c .before .before .before .before .before .before .loop .inv .0))))
 
 same-length : tie.Need-same-length Inv-loop μ-loop
-same-length c = c .before .loop .inv .filled .same
+same-length c = c .before .loop .inv .3 .added .same ∙ c .before .before .before .before .add-first .ensures .added .same
 
 returns : tie.Need-returns Inv-loop μ-loop
-returns c = fill-done (c .before .loop .inv .filled) (c .before .loop .inv .within) (c .loop-test .left)
+returns c = walk-done (c .before .before .before .before .before .before .before .before .before .before .before .before .before .args .from) (c .before .before .before .before .before .before .before .before .before .before .before .before .before .args .step) (c .before .before .before .before .before .before .before .before .before .before .before .before .before .pre .0) (c .before .before .before .before .before .before .before .before .before .before .n-of .ensures) (c .before .before .before .before .before .before .before .before .before .around .ensures) (c .before .before .before .before .add-first .ensures) (c .before .loop .inv .3 .added) (omega (arith, c .before .loop .inv .0, c .before .loop .inv .1))
 
 pub add-walk-spec : {M : Type 1} → statement M
 add-walk-spec =
@@ -64,15 +84,21 @@ add-walk-spec =
     Inv-loop
     μ-loop
     n-of-requires
-    loop-holds
-    mul-s
-    slice-read-s
-    mul-entries
-    shared-slice-read-entries
-    mul-entries-2
-    slice-write-entries
-    add-around
     around-requires
+    mul-around
+    around-requires-2
+    add-around
+    around-requires-3
+    mul-around-2
+    around-requires-4
+    add-first-requires
+    loop-holds
+    add-add-four
+    add-add-four-2
+    add-add-four-3
+    add-four-requires
+    add-around-2
+    around-requires-5
     add-j
     loop-less
     loop-again

@@ -1,0 +1,80 @@
+-- The loop keeps: the powers for the entries before j are added, and e is the next exponent.
+use Prim.Native.Nat.{_-_, _≤_}
+use native.Mathlib.Omega.{arith}
+use Rattle.field.specs.Multiples.{Walked}
+use Rattle.field.proofs.Walks.{walked-start, walked-next, walked-to}
+use Rattle.field.proofs.add_first.Statement.{statement}
+use Rattle.field.proofs.add_first.Tie as tie
+
+abbrev Inv-loop : tie.InvT-loop
+Inv-loop m powers from step count entries₀ n e₀ j₀ entries e j = (j ≤ count) × Walked m from step 0 j entries₀ e entries
+
+abbrev μ-loop : tie.MeasureT-loop
+μ-loop m powers from step count entries₀ n e₀ j₀ entries e j = count - j
+
+n-of-requires : tie.Need-n-of-requires Inv-loop μ-loop
+n-of-requires c κs = c .before .before .pre .0
+
+loop-holds : tie.Need-loop-holds Inv-loop μ-loop
+loop-holds c = (omega arith, walked-start _ _ _ (c .before .before .before .pre .2))
+
+mul-s : tie.Need-mul-s Inv-loop μ-loop
+mul-s c = omega arith
+
+slice-read-s : tie.Need-slice-read-s Inv-loop μ-loop
+slice-read-s c = omega (arith, c .before .before .loop .inv .1 .added .same)
+
+mul-entries : tie.Need-mul-entries Inv-loop μ-loop
+mul-entries c = omega arith
+
+shared-slice-read-entries : tie.Need-shared-slice-read-entries Inv-loop μ-loop
+shared-slice-read-entries c = omega (arith, c .before .before .before .before .before .before .before .pre .1 .long, c .before .before .before .loop .inv .1 .below)
+
+mul-entries-2 : tie.Need-mul-entries-2 Inv-loop μ-loop
+mul-entries-2 c = omega arith
+
+slice-write-entries : tie.Need-slice-write-entries Inv-loop μ-loop
+slice-write-entries c = omega (arith, c .before .before .before .loop .inv .1 .added .same)
+
+add-around : tie.Need-add-around Inv-loop μ-loop
+add-around c = omega (arith, c .before .before .before .loop .inv .1 .below)
+
+around-requires : tie.Need-around-requires Inv-loop μ-loop
+around-requires c κs = omega (arith, c .before .before .before .loop .inv .1 .below, c .before .before .before .before .n-of .ensures)
+
+add-j : tie.Need-add-j Inv-loop μ-loop
+add-j c = omega arith
+
+loop-less : tie.Need-loop-less Inv-loop μ-loop
+loop-less c = omega arith
+
+loop-again : tie.Need-loop-again Inv-loop μ-loop
+loop-again c = let s = c .before .before .before .before .before .before .before .before in (omega arith, walked-next (s .pre .0) (c .before .before .before .before .loop .inv .1) (c .before .before .before .before .before .n-of .ensures) (omega arith) (omega arith) (s .pre .1 .holds _ (omega (arith, c .before .before .before .before .loop .inv .1 .below))) (c .around .ensures))
+
+same-length : tie.Need-same-length Inv-loop μ-loop
+same-length c = c .before .loop .inv .1 .added .same
+
+returns : tie.Need-returns Inv-loop μ-loop
+returns c = walked-to (c .before .loop .inv .1) (omega arith)
+
+pub add-first-spec : {M : Type 1} → statement M
+add-first-spec =
+    tie.close
+    (tie.spec
+    Inv-loop
+    μ-loop
+    n-of-requires
+    loop-holds
+    mul-s
+    slice-read-s
+    mul-entries
+    shared-slice-read-entries
+    mul-entries-2
+    slice-write-entries
+    add-around
+    around-requires
+    add-j
+    loop-less
+    loop-again
+    same-length
+    returns)
