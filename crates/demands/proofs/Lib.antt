@@ -2,6 +2,8 @@ pub mod OneOutcome
 pub mod Shown
 pub mod Near
 pub mod EditOutcome
+pub mod KeptOutcome
+pub mod Demand3
 pub mod FrameOutcome
 pub mod NoSet
 pub mod Cases

@@ -24,7 +24,7 @@ use Rattle.locate.proofs.FindLaws.{one-set}
 use Rattle.codec.specs.declared.decoding.Decoded.{Decoded}
 use Rattle.codec.specs.declared.decoding.Decoded.the-variants.{Mended, Refused}
 use Rattle.codec.specs.Work.{Ready}
-use Rattle.codec.specs.Decode.{Decodes, Mends, decodeRefusal, decodedNumber, decodedCount}
+use Rattle.codec.specs.Decode.{Decodes, Kept, Mends, decodeRefusal, decodedNumber, decodedCount}
 use Rattle.codec.proofs.DecodeLaws.{near-located}
 
 -- what came in: n bits
@@ -75,16 +75,17 @@ pub refused-count : (x : Decoded) → decodedNumber x ≢ 0 → decodedCount x �
 refused-count (Mended n) h = absurd (h refl)
 refused-count (Refused r) h = refl
 
+-- two refusals with one number
+pub refused-alike : (x y : Decoded) {lentWord lentList word list word′ list′ : List ℕ} → Kept x lentWord lentList word list → Kept y lentWord lentList word′ list′ → decodedNumber x ≢ 0
+    → decodedNumber x ≡ decodedNumber y → (x ≡ y) × (word ≡ word′) × (list ≡ list′)
+refused-alike x y p q n e =
+    let k : decodedNumber y ≢ 0 = λ z. n (e ∙ z) in
+    let a = p n in
+    let b = q k in
+    (decoded-tells x y e (refused-count x n ∙ sym (refused-count y k)), a .0 ∙ sym (b .0), a .1 ∙ sym (b .1))
+
 module _ {m t : ℕ} {received lentWord lentList : List ℕ} {x y : Decoded} {word list word′ list′ : List ℕ}
     (p : Decodes m t received lentWord lentList x word list) (q : Decodes m t received lentWord lentList y word′ list′) where
-  -- two refusals with one number
-  refused-alike : decodedNumber x ≢ 0 → decodedNumber x ≡ decodedNumber y → (x ≡ y) × (word ≡ word′) × (list ≡ list′)
-  refused-alike n e =
-      let k : decodedNumber y ≢ 0 = λ z. n (e ∙ z) in
-      let a = p .kept n in
-      let b = q .kept k in
-      (decoded-tells x y e (refused-count x n ∙ sym (refused-count y k)), a .0 ∙ sym (b .0), a .1 ∙ sym (b .1))
-
   found-alike : decodeRefusal m t received lentWord lentList ≡ 0 → Dec (decodedNumber x ≡ 0) → Dec (decodedNumber y ≡ 0) → (x ≡ y) × (word ≡ word′) × (list ≡ list′)
   found-alike z (yes a) (yes b) =
       let R = decode-ready m t received lentWord lentList z in
@@ -96,14 +97,14 @@ module _ {m t : ℕ} {received lentWord lentList : List ℕ} {x y : Decoded} {wo
   found-alike z (no a) (yes b) =
       let M = q .found z .mended b in
       absurd (p .found z .far a .1 word′ (M .code-word) (omega (arith, M .counts, M .within)))
-  found-alike z (no a) (no b) = refused-alike a (p .found z .far a .0 ∙ sym (q .found z .far b .0))
+  found-alike z (no a) (no b) = refused-alike x y (p .kept) (q .kept) a (p .found z .far a .0 ∙ sym (q .found z .far b .0))
 
   pub decode-one : (x ≡ y) × (word ≡ word′) × (list ≡ list′)
   decode-one = pick (ℕ-discrete (decodeRefusal m t received lentWord lentList) 0)
     where
       pick : Dec (decodeRefusal m t received lentWord lentList ≡ 0) → (x ≡ y) × (word ≡ word′) × (list ≡ list′)
       pick (yes z) = found-alike z (ℕ-discrete (decodedNumber x) 0) (ℕ-discrete (decodedNumber y) 0)
-      pick (no n) = refused-alike (λ z. n (sym (p .checked n) ∙ z)) (p .checked n ∙ sym (q .checked n))
+      pick (no n) = refused-alike x y (p .kept) (q .kept) (λ z. n (sym (p .checked n) ∙ z)) (p .checked n ∙ sym (q .checked n))
 
 -- a word that Decode may mend to is what it mends to
 pub mended-is : {m t count : ℕ} {received c cs lentWord lentList word list : List ℕ} {x : Decoded} → Mends m t received c cs count

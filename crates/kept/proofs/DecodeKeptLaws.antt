@@ -19,10 +19,11 @@ use Rattle.codes.specs.Look.{codeRefusal, Accepted}
 use Rattle.locate.specs.Located.{Located}
 use Rattle.codec.specs.declared.decoding.Decoded.{Decoded}
 use Rattle.codec.specs.declared.decoding.Decoded.the-variants.{Mended, Refused}
+use Rattle.codec.specs.Decode.{Kept as AsLent}
 use Rattle.codec.proofs.DecodeSteps.{refusal-not}
 use Rattle.kept.specs.declared.Kept.{Kept}
 use Rattle.kept.specs.Record.{badRecord}
-use Rattle.kept.specs.DecodeKept.{DecodesKept, FindsKept, NoSet, AsLent, decodeKeptRefusal}
+use Rattle.kept.specs.DecodeKept.{DecodesKept, FindsKept, NoSet, decodeKeptRefusal}
 use Rattle.kept.specs.Work.{Ready}
 
 pub finds-none : {k : Kept} {word list : List ℕ} → NoSet k → FindsKept k (Refused NothingNear) word list

@@ -3,20 +3,21 @@ use mathlib.Core.Path.{_≡_, _∙_, refl, sym, ap, ap₂}
 use mathlib.Core.Bool.{Bool, true, false, _||_, true≢false}
 use mathlib.Core.List.{List, [], _∷_}
 use Prim.Native.Nat.{ℕ, zero, suc, _+_, _^_, _≤_, _<_}
-use native.Mathlib.Decide.{decLe}
+use native.Mathlib.Decide.{decLe, decLt}
 use native.Mathlib.Numerals.{add-one}
 use native.Mathlib.Omega.{arith}
 use borrow.Author.Tests.{le-leb, lt-leb}
-use lib.ListN.{length, getD, take, drop, drop-of-length-le}
+use lib.ListN.{length, getD, take, drop, drop-of-length-le, length-take, List·getD-eq-default}
 use lib.Pow.{pow-pos}
 use lib.Seq.{drop-cons, getD-take}
-use Rattle.bits.specs.Bits.{AreBits, hasBadBit}
-use Rattle.bits.proofs.BitLaws.{bits-of-not-bad}
+use Rattle.bits.specs.Bits.{hasBadBit}
+use Rattle.bits.proofs.BitLaws.{not-bad, bits-of-not-bad}
 use Rattle.field.specs.Product.{Listed}
 use Rattle.field.specs.Power.{nOf}
 use Rattle.field.proofs.Range.{sizes}
 use Rattle.kept.specs.declared.Kept.{Kept}
 use Rattle.kept.specs.Record.{someAtLeast, badRecord}
+use Rattle.kept.specs.Work.{Sound}
 
 -- two records with the same parts
 pub kept-same : {k k′ : Kept} → k .m ≡ k′ .m → k .t ≡ k′ .t → k .bits ≡ k′ .bits → k .sums ≡ k′ .sums → k ≡ k′
@@ -63,6 +64,10 @@ all-below {bound} (x ∷ xs) z e i = pick (decLe bound x) (all-below xs z) i
     pick (no h) rest zero = omega arith
     pick (no h) rest (suc i) = rest (sym (first-low xs (omega arith)) ∙ e) i
 
+none-high : {bound : ℕ} (xs : List ℕ) → ((i : ℕ) → getD xs i 0 < bound) → someAtLeast bound xs ≡ false
+none-high {bound} [] h = none-at-least bound
+none-high (x ∷ xs) h = first-low xs (h 0) ∙ none-high xs (λ i. h (suc i))
+
 -- the two halves of check 7, n being that of the record's m
 module _ (k : Kept) {n : ℕ} (is-n : n ≡ nOf (k .m)) {bad : Bool} (is-bad : bad ≡ hasBadBit (take n (k .bits))) where
   same-bad : bad ≡ hasBadBit (take (nOf (k .m)) (k .bits))
@@ -79,11 +84,6 @@ module _ (k : Kept) {n : ℕ} (is-n : n ≡ nOf (k .m)) {bad : Bool} (is-bad : b
       ∙ ap (λ (x : ℕ). someAtLeast x (take (k .t) (k .sums))) bound
       ∙ sym (ap (λ (b : Bool). b || someAtLeast (2 ^ k .m) (take (k .t) (k .sums))) (sym same-bad ∙ e))
 
--- what check 7 leaves: bits and field elements
-pub record Sound (k : Kept) : Type 0 where
-  pub bits : AreBits (take (nOf (k .m)) (k .bits))
-  pub sums : (i : ℕ) → i < k .t → getD (k .sums) i 0 < 2 ^ k .m
-
 pub sound : (k : Kept) → badRecord k ≡ false → Sound k
 sound k e =
     let (b, s) = neither (hasBadBit (take (nOf (k .m)) (k .bits))) (someAtLeast (2 ^ k .m) (take (k .t) (k .sums))) e in
@@ -95,3 +95,11 @@ sound k e =
     neither : (a b : Bool) → a || b ≡ false → (a ≡ false) × (b ≡ false)
     neither true b e = absurd (true≢false e)
     neither false b e = (refl, e)
+
+pub sound-passes : (k : Kept) → Sound k → badRecord k ≡ false
+sound-passes k s =
+    ap (λ (b : Bool). b || someAtLeast (2 ^ k .m) (take (k .t) (k .sums))) (not-bad (s .bits)) ∙ none-high (take (k .t) (k .sums)) (λ i. pick i (decLt i (k .t)))
+  where
+    pick : (i : ℕ) → Dec (i < k .t) → getD (take (k .t) (k .sums)) i 0 < 2 ^ k .m
+    pick i (yes h) = rw (getD-take (k .t) (k .sums) i 0 h) (s .sums i h)
+    pick i (no n) = rw (List·getD-eq-default (take (k .t) (k .sums)) 0 {n = i} (omega (arith, length-take (k .t) (k .sums)))) (pow-pos (k .m))

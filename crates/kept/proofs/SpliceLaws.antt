@@ -40,7 +40,7 @@ place-kept {p = p} bits sums e =
     record { is-bits = sym (ap (set bits p) (sym e) ∙ set-getD bits p 0); same = λ h. refl; changed = λ n. absurd (n e) }
 
 -- no place differs from itself
-none-added : (m i : ℕ) (bits sums : List ℕ) → plusPlaces m (differences bits bits) sums i ≡ getD sums i 0
+pub none-added : (m i : ℕ) (bits sums : List ℕ) → plusPlaces m (differences bits bits) sums i ≡ getD sums i 0
 none-added m i bits sums = ap (λ (x : ℕ). getD sums i 0 ⊕ x) (ap (sumOver m (2 * i + 1)) (differences-self bits) ∙ sumOver-nil m (2 * i + 1)) ∙ sum-zero (getD sums i 0)
 
 pub stretch-start : (m t start : ℕ) (stretch bits sums : List ℕ) → StretchSpliced m t start stretch bits sums bits sums 0

@@ -12,7 +12,7 @@ use Rattle.field.specs.Power.{nOf}
 use Rattle.codes.specs.Look.{codeRefusal}
 use Rattle.locate.specs.Located.{Located}
 use Rattle.codec.specs.declared.decoding.Decoded.{Decoded}
-use Rattle.codec.specs.Decode.{decodedNumber, decodedCount}
+use Rattle.codec.specs.Decode.{decodedNumber, decodedCount, Kept as AsLent}
 use Rattle.kept.specs.declared.Kept.{Kept}
 use Rattle.kept.specs.Record.{badRecord}
 
@@ -39,10 +39,6 @@ NoSet k = (ps : List ℕ) → Located (k .m) (k .t) (k .sums) ps → ⊥
 pub record FindsKept (k : Kept) (answer : Decoded) (word list : List ℕ) : Type 0 where
   pub mended : decodedNumber answer ≡ 0 → MendsKept k word list (decodedCount answer)
   pub none : decodedNumber answer ≢ 0 → (decodedNumber answer ≡ 6) × NoSet k
-
--- a refusal leaves both buffers as lent
-abbrev pub AsLent : Decoded → List ℕ → List ℕ → List ℕ → List ℕ → Type 0
-AsLent answer lentWord lentList word list = decodedNumber answer ≢ 0 → (word ≡ lentWord) × (list ≡ lentList)
 
 pub record DecodesKept (k : Kept) (lentWord lentList : List ℕ) (answer : Decoded) (word list : List ℕ) : Type 0 where
   pub checked : decodeKeptRefusal k lentWord lentList ≢ 0 → decodedNumber answer ≡ decodeKeptRefusal k lentWord lentList

@@ -31,10 +31,14 @@ pub record StretchSpliced (m t start : ℕ) (stretch bits sums bits′ sums′ :
   pub is-bits : bits′ ≡ paste bits start stretch i
   pub filled : Filled (plusPlaces m (differences bits bits′) sums) t sums sums′
 
+-- what check 7 leaves: bits and field elements
+pub record Sound (k : Kept) : Type 0 where
+  pub bits : AreBits (take (nOf (k .m)) (k .bits))
+  pub sums : (i : ℕ) → i < k .t → getD (k .sums) i 0 < 2 ^ k .m
+
 -- the checks of Decode kept have passed
 pub record Ready (k : Kept) (word list : List ℕ) : Type 0 where
   pub accepted : Accepted (k .m) (k .t)
-  pub bits : AreBits (take (nOf (k .m)) (k .bits))
-  pub sums : (i : ℕ) → i < k .t → getD (k .sums) i 0 < 2 ^ k .m
+  pub sound : Sound k
   pub word-long : length word ≡ nOf (k .m)
   pub list-long : length list ≡ k .t

@@ -57,10 +57,10 @@ add-four-requires : tie.Need-add-four-requires Inv-loop μ-loop
 add-four-requires c κs = let p = c .before .before .before .before .before .before .before .before .before .before .before .before .before .before .pre in let b = strides-within (c .before .before .before .before .before .before .before .before .before .before .before .before .before .before .pre .0) (strides (c .before .before .before .before .before .before .before .before .before .before .before .before .before .before .args .step) (c .before .before .before .before .before .before .before .before .before .before .before .before .before .before .pre .0) (c .before .before .before .before .before .before .before .before .before .before .before .n-of .ensures) (c .before .before .before .before .before .before .before .before .before .before .around .ensures) (c .before .before .before .before .before .before .before .before .before .around2 .ensures) (c .before .before .before .before .before .before .before .before .around3 .ensures) (c .before .before .before .before .before .before .before .around4 .ensures)) (c .before .before .loop .inv .3 .below) in let l = c .before .before .loop .inv .3 .added .same in let k = c .before .before .before .before .before .add-first .ensures .added .same in (omega (arith, p .1 .long, c .before .before .loop .inv .3 .below), omega (arith, p .1 .long, b .first), omega (arith, p .1 .long, b .second), omega (arith, p .1 .long, b .third), omega (arith, p .4, l, k, c .before .before .loop .inv .2))
 
 add-around-2 : tie.Need-add-around-2 Inv-loop μ-loop
-add-around-2 c = let z = sizes (c .before .before .before .before .before .before .before .before .before .before .before .before .before .before .before .before .before .pre .0) in let b = strides-within (c .before .before .before .before .before .before .before .before .before .before .before .before .before .before .before .before .before .pre .0) (strides (c .before .before .before .before .before .before .before .before .before .before .before .before .before .before .before .before .before .args .step) (c .before .before .before .before .before .before .before .before .before .before .before .before .before .before .before .before .before .pre .0) (c .before .before .before .before .before .before .before .before .before .before .before .before .before .before .n-of .ensures) (c .before .before .before .before .before .before .before .before .before .before .before .before .before .around .ensures) (c .before .before .before .before .before .before .before .before .before .before .before .before .around2 .ensures) (c .before .before .before .before .before .before .before .before .before .before .before .around3 .ensures) (c .before .before .before .before .before .before .before .before .before .before .around4 .ensures)) (c .before .before .before .before .before .loop .inv .3 .below) in omega (arith, b .fourth)
+add-around-2 c = let z = sizes (c .before .before .before .before .before .before .before .before .before .before .before .before .before .before .before .before .before .pre .0) in let b = strides-within (c .before .before .before .before .before .before .before .before .before .before .before .before .before .before .before .before .before .pre .0) (strides (c .before .before .before .before .before .before .before .before .before .before .before .before .before .before .before .before .before .args .step) (c .before .before .before .before .before .before .before .before .before .before .before .before .before .before .before .before .before .pre .0) (c .before .before .before .before .before .before .before .before .before .before .before .before .before .before .n-of .ensures) (c .before .before .before .before .before .before .before .before .before .before .before .before .before .around .ensures) (c .before .before .before .before .before .before .before .before .before .before .before .before .around2 .ensures) (c .before .before .before .before .before .before .before .before .before .before .before .around3 .ensures) (c .before .before .before .before .before .before .before .before .before .before .around4 .ensures)) (c .before .before .before .before .before .loop .inv .3 .below) in omega (arith, b .third, b .fourth)
 
 around-requires-5 : tie.Need-around-requires-5 Inv-loop μ-loop
-around-requires-5 c κs = let b = strides-within (c .before .before .before .before .before .before .before .before .before .before .before .before .before .before .before .before .before .pre .0) (strides (c .before .before .before .before .before .before .before .before .before .before .before .before .before .before .before .before .before .args .step) (c .before .before .before .before .before .before .before .before .before .before .before .before .before .before .before .before .before .pre .0) (c .before .before .before .before .before .before .before .before .before .before .before .before .before .before .n-of .ensures) (c .before .before .before .before .before .before .before .before .before .before .before .before .before .around .ensures) (c .before .before .before .before .before .before .before .before .before .before .before .before .around2 .ensures) (c .before .before .before .before .before .before .before .before .before .before .before .around3 .ensures) (c .before .before .before .before .before .before .before .before .before .before .around4 .ensures)) (c .before .before .before .before .before .loop .inv .3 .below) in omega (arith, b .fourth, c .before .before .before .before .before .before .before .before .before .before .before .before .before .before .n-of .ensures)
+around-requires-5 c κs = let b = strides-within (c .before .before .before .before .before .before .before .before .before .before .before .before .before .before .before .before .before .pre .0) (strides (c .before .before .before .before .before .before .before .before .before .before .before .before .before .before .before .before .before .args .step) (c .before .before .before .before .before .before .before .before .before .before .before .before .before .before .before .before .before .pre .0) (c .before .before .before .before .before .before .before .before .before .before .before .before .before .before .n-of .ensures) (c .before .before .before .before .before .before .before .before .before .before .before .before .before .around .ensures) (c .before .before .before .before .before .before .before .before .before .before .before .before .around2 .ensures) (c .before .before .before .before .before .before .before .before .before .before .before .around3 .ensures) (c .before .before .before .before .before .before .before .before .before .before .around4 .ensures)) (c .before .before .before .before .before .loop .inv .3 .below) in omega (arith, b .third, b .fourth, c .before .before .before .before .before .before .before .before .before .before .before .before .before .before .n-of .ensures)
 
 add-j : tie.Need-add-j Inv-loop μ-loop
 add-j c = omega (arith, c .before .before .before .before .before .before .loop .inv .2)

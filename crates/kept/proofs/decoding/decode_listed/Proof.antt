@@ -22,7 +22,7 @@ returns-3 : tie.Need-returns-3
 returns-3 c = kept-list _ (c .before .before .before .before .before .before .before .before .pre) (c .before .before .before .before .before .n-of .ensures) _ _ (c .before .before .before .before .is-bad .ensures) (c .before .before .before .if1 .left) (c .before .before .if2 .left) (c .if3 .taken)
 
 mend-requires : tie.Need-mend-requires
-mend-requires c κs = let s = sound _ (sym (c .before .before .before .before .before .before .is-bad .ensures) ∙ c .before .before .before .before .before .if1 .left) in record { accepted = c .before .before .before .before .before .before .before .before .before .before .pre; bits = s .bits; sums = s .sums; word-long = c .before .before .before .before .if2 .left ∙ c .before .before .before .before .before .before .before .n-of .ensures; list-long = c .before .before .if3 .left }
+mend-requires c κs = record { accepted = c .before .before .before .before .before .before .before .before .before .before .pre; sound = sound _ (sym (c .before .before .before .before .before .before .is-bad .ensures) ∙ c .before .before .before .before .before .if1 .left); word-long = c .before .before .before .before .if2 .left ∙ c .before .before .before .before .before .before .before .n-of .ensures; list-long = c .before .before .if3 .left }
 
 same-length : tie.Need-same-length
 same-length c = search needs

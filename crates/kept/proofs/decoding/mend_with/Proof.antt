@@ -18,7 +18,10 @@ slice-aggregate-put : tie.Need-slice-aggregate-put
 slice-aggregate-put c = search needs
 
 put-requires : tie.Need-put-requires
-put-requires c κs = let w = told-places (c .before .before .before .before .before .before .before .locate .ensures) (c .before .before .before .before .answer .given .1) in let l : length (c .before .before .before .before .before .before .before .locate .result .places) ≡ 255 = search needs in (c .before .before .before .before .before .before .before .before .before .before .before .before .before .before .before .pre .0, omega (arith, l, w .0), w .1)
+put-requires c κs =
+    let w = told-places (c .before .before .before .before .before .before .before .locate .ensures) (c .before .before .before .before .answer .given .1) in
+    let l : length (c .before .before .before .before .before .before .before .locate .result .places) ≡ 255 = search needs in
+    (c .before .before .before .before .before .before .before .before .before .before .before .before .before .before .before .pre .0, omega (arith, l, w .0), w .1)
 
 enum-told : tie.Need-enum-told
 enum-told c = search needs

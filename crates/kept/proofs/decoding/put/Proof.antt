@@ -3,7 +3,6 @@ use mathlib.Core.Path.{_≡_, sym, subst}
 use lib.ListN.{length}
 use Rattle.bits.specs.Bits.{AreBits}
 use Rattle.kept.proofs.DecodeKeptLaws.{stored, put-kept}
-use mathlib.Core.Path.{sym}
 use native.Mathlib.Omega.{arith}
 use lib.Seq.{length-take-le}
 use Rattle.field.proofs.Range.{sizes}
@@ -12,19 +11,37 @@ use Rattle.kept.proofs.decoding.put.Statement.{statement}
 use Rattle.kept.proofs.decoding.put.Tie as tie
 
 array-share-prefix-bits : tie.Need-array-share-prefix-bits
-array-share-prefix-bits c = let l : length (c .before .before .before .before .before .args .kept .bits) ≡ 1023 = search needs in let s = sizes (c .before .before .before .before .before .pre .0 .accepted .listed) in omega (arith, l, c .before .before .before .before .before .pre .0 .word-long)
+array-share-prefix-bits c =
+    let s = c .before .before .before .before .before in
+    let l : length (s .args .kept .bits) ≡ 1023 = search needs in
+    let k = sizes (s .pre .0 .accepted .listed) in
+    omega (arith, l, s .pre .0 .word-long)
 
 slice-aggregate-copy-at : tie.Need-slice-aggregate-copy-at
-slice-aggregate-copy-at c = let l : length (c .before .before .before .before .before .before .args .kept .bits) ≡ 1023 = search needs in let s = sizes (c .before .before .before .before .before .before .pre .0 .accepted .listed) in sym (length-take-le (length (c .before .before .before .before .before .before .args .word .now)) (c .before .before .before .before .before .before .args .kept .bits) (omega (arith, l, c .before .before .before .before .before .before .pre .0 .word-long)))
+slice-aggregate-copy-at c =
+    let s = c .before .before .before .before .before .before in
+    let l : length (s .args .kept .bits) ≡ 1023 = search needs in
+    let k = sizes (s .pre .0 .accepted .listed) in
+    sym (length-take-le (length (s .args .word .now)) (s .args .kept .bits) (omega (arith, l, s .pre .0 .word-long)))
 
 copy-at-requires : tie.Need-copy-at-requires
-copy-at-requires c κs = let l : length (c .before .before .before .before .before .before .args .kept .bits) ≡ 1023 = search needs in let s = sizes (c .before .before .before .before .before .before .pre .0 .accepted .listed) in omega (arith, length-take-le (length (c .before .before .before .before .before .before .args .word .now)) (c .before .before .before .before .before .before .args .kept .bits) (omega (arith, l, c .before .before .before .before .before .before .pre .0 .word-long)))
+copy-at-requires c κs =
+    let s = c .before .before .before .before .before .before in
+    let l : length (s .args .kept .bits) ≡ 1023 = search needs in
+    let k = sizes (s .pre .0 .accepted .listed) in
+    omega (arith, length-take-le (length (s .args .word .now)) (s .args .kept .bits) (omega (arith, l, s .pre .0 .word-long)))
 
 flip-all-requires : tie.Need-flip-all-requires
-flip-all-requires c κs = let l : length (c .before .before .before .before .before .before .before .before .before .before .args .kept .bits) ≡ 1023 = search needs in let e = stored (c .before .before .before .before .before .before .before .before .before .before .pre .0) l (c .before .before .before .copy-at .kept .0) (c .before .before .before .copy-at .ensures) in (subst AreBits (sym e) (c .before .before .before .before .before .before .before .before .before .before .pre .0 .bits), c .before .before .before .before .before .before .before .before .before .before .pre .1, λ p k. omega (arith, c .before .before .before .before .before .before .before .before .before .before .pre .2 .below p k, c .before .before .before .copy-at .kept .0, c .before .before .before .before .before .before .before .before .before .before .pre .0 .word-long))
+flip-all-requires c κs =
+    let s = c .before .before .before .before .before .before .before .before .before .before in
+    let l : length (s .args .kept .bits) ≡ 1023 = search needs in
+    let e = stored (s .pre .0) l (c .before .before .before .copy-at .kept .0) (c .before .before .before .copy-at .ensures) in
+    (subst AreBits (sym e) (s .pre .0 .sound .bits), s .pre .1, λ p k. omega (arith, s .pre .2 .below p k, c .before .before .before .copy-at .kept .0, s .pre .0 .word-long))
 
 slice-aggregate-put-list : tie.Need-slice-aggregate-put-list
-slice-aggregate-put-list c = sym (length-take-le (c .before .before .before .before .before .before .before .before .before .before .before .before .before .before .args .count) (c .before .before .before .before .before .before .before .before .before .before .before .before .before .before .args .places .now) (c .before .before .before .before .before .before .before .before .before .before .before .before .before .before .pre .1))
+slice-aggregate-put-list c =
+    let s = c .before .before .before .before .before .before .before .before .before .before .before .before .before .before in
+    sym (length-take-le (s .args .count) (s .args .places .now) (s .pre .1))
 
 put-list-requires : tie.Need-put-list-requires
 put-list-requires c κs = search needs
@@ -36,7 +53,11 @@ same-length-2 : tie.Need-same-length-2
 same-length-2 c = search needs
 
 returns : tie.Need-returns
-returns c = let l : length (c .before .before .before .before .before .before .before .before .before .before .before .before .before .before .before .before .before .before .args .kept .bits) ≡ 1023 = search needs in let e = stored (c .before .before .before .before .before .before .before .before .before .before .before .before .before .before .before .before .before .before .pre .0) l (c .before .before .before .before .before .before .before .before .before .before .before .copy-at .kept .0) (c .before .before .before .before .before .before .before .before .before .before .before .copy-at .ensures) in put-kept (c .before .before .before .before .before .before .before .before .before .before .before .before .before .before .before .before .before .before .args .count) (c .before .before .before .before .before .before .before .before .before .before .before .before .before .before .before .before .before .before .args .places .now) (c .before .before .before .before .before .before .before .before .before .before .before .before .before .before .before .before .before .before .pre .0) (c .before .before .before .before .before .before .before .before .before .before .before .before .before .before .before .before .before .before .pre .1) (c .before .before .before .before .before .before .before .before .before .before .before .before .before .before .before .before .before .before .pre .2) e (c .before .before .before .before .before .before .before .flip-all .ensures) (c .before .before .put-list .ensures)
+returns c =
+    let s = c .before .before .before .before .before .before .before .before .before .before .before .before .before .before .before .before .before .before in
+    let l : length (s .args .kept .bits) ≡ 1023 = search needs in
+    let e = stored (s .pre .0) l (c .before .before .before .before .before .before .before .before .before .before .before .copy-at .kept .0) (c .before .before .before .before .before .before .before .before .before .before .before .copy-at .ensures) in
+    put-kept (s .args .count) (s .args .places .now) (s .pre .0) (s .pre .1) (s .pre .2) e (c .before .before .before .before .before .before .before .flip-all .ensures) (c .before .before .put-list .ensures)
 
 pub put-spec : {M : Type 1} → statement M
 put-spec =

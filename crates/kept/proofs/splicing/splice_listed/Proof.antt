@@ -25,25 +25,36 @@ refused-requires : tie.Need-refused-requires
 refused-requires c κs = search needs
 
 returns : tie.Need-returns
-returns c = splice-record _ (c .before .before .before .before .before .before .before .pre) (c .before .before .before .before .before .n-of .ensures) (c .before .before .before .before .before .before .before .args .start) (c .before .before .before .before .before .before .before .args .stretch .now) (c .before .before .before .before .is-bad .ensures) (c .before .before .before .runs-past .ensures) (c .before .before .has-bad-bit .ensures) (c .before .if1 .taken) (c .refused .ensures .0) (c .refused .ensures .1)
+returns c =
+    let s = c .before .before .before .before .before .before .before in
+    splice-record _ (s .pre) (c .before .before .before .before .before .n-of .ensures) (s .args .start) (s .args .stretch .now) (c .before .before .before .before .is-bad .ensures) (c .before .before .before .runs-past .ensures) (c .before .before .has-bad-bit .ensures) (c .before .if1 .taken) (c .refused .ensures .0) (c .refused .ensures .1)
 
 refused-requires-2 : tie.Need-refused-requires-2
 refused-requires-2 c κs = search needs
 
 returns-2 : tie.Need-returns-2
-returns-2 c = splice-end _ (c .before .before .before .before .before .before .before .before .pre) (c .before .before .before .before .before .before .n-of .ensures) (c .before .before .before .before .before .before .before .before .args .start) (c .before .before .before .before .before .before .before .before .args .stretch .now) (c .before .before .before .before .before .is-bad .ensures) (c .before .before .before .before .runs-past .ensures) (c .before .before .before .has-bad-bit .ensures) (c .before .before .if1 .left) (c .before .if2 .taken) (c .refused2 .ensures .0) (c .refused2 .ensures .1)
+returns-2 c =
+    let s = c .before .before .before .before .before .before .before .before in
+    splice-end _ (s .pre) (c .before .before .before .before .before .before .n-of .ensures) (s .args .start) (s .args .stretch .now) (c .before .before .before .before .before .is-bad .ensures) (c .before .before .before .before .runs-past .ensures) (c .before .before .before .has-bad-bit .ensures) (c .before .before .if1 .left) (c .before .if2 .taken) (c .refused2 .ensures .0) (c .refused2 .ensures .1)
 
 refused-requires-3 : tie.Need-refused-requires-3
 refused-requires-3 c κs = search needs
 
 returns-3 : tie.Need-returns-3
-returns-3 c = splice-bit _ (c .before .before .before .before .before .before .before .before .before .pre) (c .before .before .before .before .before .before .before .n-of .ensures) (c .before .before .before .before .before .before .before .before .before .args .start) (c .before .before .before .before .before .before .before .before .before .args .stretch .now) (c .before .before .before .before .before .before .is-bad .ensures) (c .before .before .before .before .before .runs-past .ensures) (c .before .before .before .before .has-bad-bit .ensures) (c .before .before .before .if1 .left) (c .before .before .if2 .left) (c .before .if3 .taken) (c .refused3 .ensures .0) (c .refused3 .ensures .1)
+returns-3 c =
+    let s = c .before .before .before .before .before .before .before .before .before in
+    splice-bit _ (s .pre) (c .before .before .before .before .before .before .before .n-of .ensures) (s .args .start) (s .args .stretch .now) (c .before .before .before .before .before .before .is-bad .ensures) (c .before .before .before .before .before .runs-past .ensures) (c .before .before .before .before .has-bad-bit .ensures) (c .before .before .before .if1 .left) (c .before .before .if2 .left) (c .before .if3 .taken) (c .refused3 .ensures .0) (c .refused3 .ensures .1)
 
 spliced-requires : tie.Need-spliced-requires
-spliced-requires c κs = let e = ltb-false (c .before .before .before .before .before .before .n-of .result) (c .before .before .before .before .before .before .before .before .args .start + length (c .before .before .before .before .before .before .before .before .args .stretch .now)) (sym (c .before .before .before .before .runs-past .ensures) ∙ c .before .if2 .left) in (c .before .before .before .before .before .before .before .before .pre, omega (arith, c .before .before .before .before .before .before .n-of .ensures))
+spliced-requires c κs =
+    let s = c .before .before .before .before .before .before .before .before in
+    let e = ltb-false (c .before .before .before .before .before .before .n-of .result) (s .args .start + length (s .args .stretch .now)) (sym (c .before .before .before .before .runs-past .ensures) ∙ c .before .if2 .left) in
+    (s .pre, omega (arith, c .before .before .before .before .before .before .n-of .ensures))
 
 returns-4 : tie.Need-returns-4
-returns-4 c = splice-done _ (c .before .before .before .before .before .before .before .before .before .pre) (c .before .before .before .before .before .before .before .n-of .ensures) (c .before .before .before .before .before .before .before .before .before .args .start) (c .before .before .before .before .before .before .before .before .before .args .stretch .now) (c .before .before .before .before .before .before .is-bad .ensures) (c .before .before .before .before .before .runs-past .ensures) (c .before .before .before .before .has-bad-bit .ensures) (c .before .before .before .if1 .left) (c .before .before .if2 .left) (c .before .if3 .left) refl (c .spliced .ensures)
+returns-4 c =
+    let s = c .before .before .before .before .before .before .before .before .before in
+    splice-done _ (s .pre) (c .before .before .before .before .before .before .before .n-of .ensures) (s .args .start) (s .args .stretch .now) (c .before .before .before .before .before .before .is-bad .ensures) (c .before .before .before .before .before .runs-past .ensures) (c .before .before .before .before .has-bad-bit .ensures) (c .before .before .before .if1 .left) (c .before .before .if2 .left) (c .before .if3 .left) refl (c .spliced .ensures)
 
 pub splice-listed-spec : {M : Type 1} → statement M
 splice-listed-spec =

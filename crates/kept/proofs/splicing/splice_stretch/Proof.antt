@@ -23,7 +23,11 @@ add-splice-place : tie.Need-add-splice-place Inv-loop μ-loop
 add-splice-place c = omega arith
 
 splice-place-requires : tie.Need-splice-place-requires Inv-loop μ-loop
-splice-place-requires c κs = let p = c .before .before .before .before .before .before .before .before .before .before .pre in let l = stretch-long (c .before .before .before .before .loop .inv) (omega (arith, c .before .before .before .before .loop .inv .within, p .1, p .2)) in (p .0, omega (arith, p .1), omega (arith, p .1, p .2, l), omega (arith, p .3, c .before .before .before .before .loop .inv .filled .same))
+splice-place-requires c κs =
+    let p = c .before .before .before .before .before .before .before .before .before .before .pre in
+    let v = c .before .before .before .before .loop .inv in
+    let l = stretch-long v (omega (arith, v .within, p .1, p .2)) in
+    (p .0, omega (arith, p .1), omega (arith, p .1, p .2, l), omega (arith, p .3, v .filled .same))
 
 add-i : tie.Need-add-i Inv-loop μ-loop
 add-i c = omega arith
@@ -32,10 +36,15 @@ loop-less : tie.Need-loop-less Inv-loop μ-loop
 loop-less c = omega arith
 
 loop-again : tie.Need-loop-again Inv-loop μ-loop
-loop-again c = let p = c .before .before .before .before .before .before .before .before .before .before .before .before .before .before .before .pre in stretch-next (p .0 .listed) (c .before .before .before .before .before .before .before .before .before .loop .inv) (c .before .before .before .before .before .before .before .before .loop-test .taken) (omega (arith, p .1, p .2)) (c .before .before .before .before .splice-place .ensures)
+loop-again c =
+    let p = c .before .before .before .before .before .before .before .before .before .before .before .before .before .before .before .pre in
+    stretch-next (p .0 .listed) (c .before .before .before .before .before .before .before .before .before .loop .inv) (c .before .before .before .before .before .before .before .before .loop-test .taken) (omega (arith, p .1, p .2)) (c .before .before .before .before .splice-place .ensures)
 
 same-length : tie.Need-same-length Inv-loop μ-loop
-same-length c = let p = c .before .before .before .before .before .before .before .pre in stretch-long (c .before .loop .inv) (omega (arith, c .before .loop .inv .within, p .1, p .2))
+same-length c =
+    let p = c .before .before .before .before .before .before .before .pre in
+    let v = c .before .loop .inv in
+    stretch-long v (omega (arith, v .within, p .1, p .2))
 
 same-length-2 : tie.Need-same-length-2 Inv-loop μ-loop
 same-length-2 c = c .before .loop .inv .filled .same

@@ -42,7 +42,12 @@ slice-aggregate-splice-stretch-4 : tie.Need-slice-aggregate-splice-stretch-4
 slice-aggregate-splice-stretch-4 c = search needs
 
 splice-stretch-requires : tie.Need-splice-stretch-requires
-splice-stretch-requires c κs = let p = c .before .before .before .before .before .before .before .before .before .before .before .before .before .before .before .before .pre in let b : length (c .before .before .before .before .before .before .before .before .before .before .before .before .before .before .before .before .args .kept .bits) ≡ 1023 = search needs in let l : length (c .before .before .before .before .before .before .before .before .before .before .before .before .before .before .before .before .args .kept .sums) ≡ 255 = search needs in let s = sizes (p .0 .listed) in (c .before .before .before .before .before .fill-logs .ensures, p .1, omega (arith, b), omega (arith, l, p .0 .most))
+splice-stretch-requires c κs =
+    let s = c .before .before .before .before .before .before .before .before .before .before .before .before .before .before .before .before in
+    let b : length (s .args .kept .bits) ≡ 1023 = search needs in
+    let l : length (s .args .kept .sums) ≡ 255 = search needs in
+    let k = sizes (s .pre .0 .listed) in
+    (c .before .before .before .before .before .fill-logs .ensures, s .pre .1, omega (arith, b), omega (arith, l, s .pre .0 .most))
 
 returns : tie.Need-returns
 returns c = spliced-parts refl refl (c .before .before .splice-stretch .ensures)
