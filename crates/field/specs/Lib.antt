@@ -2,4 +2,3 @@ pub mod Sum
 pub mod Product
 pub mod Power
 pub mod Tables
-pub mod Multiples

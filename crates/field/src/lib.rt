@@ -6,8 +6,6 @@ ghost use lib.ListN.{length};
 ghost use Rattle.field.specs.Product.{Listed, polynomial, _⊗⟨_⟩_};
 ghost use Rattle.field.specs.Power.{a, nOf, power, inverse};
 ghost use Rattle.field.specs.Tables.{Powers, Tables};
-ghost use Rattle.field.specs.Multiples.{plusMultiple, plusWalk, plusFour, Walked};
-ghost use Rattle.entries.specs.Entries.{Filled};
 
 // The first list of field polynomials, for m = 3 to 10.
 const POLYNOMIALS: [u16; 8] = [11, 19, 37, 67, 131, 285, 529, 1033];
@@ -138,81 +136,4 @@ pub fn power_of_a(m: usize, powers: &[u16], logs: &[u16], p: usize) -> u16
     ensures { λ r. ⌜ r ≡ power m a p ⌝ }
 {
     powers[p]
-}
-
-// To each of the first `count` entries s times the next power of a^step is added, from s itself on.
-pub fn add_multiples(
-    m: usize,
-    powers: &[u16],
-    logs: &[u16],
-    s: u16,
-    step: usize,
-    count: usize,
-    entries: &mut [u16],
-)
-    requires { ⌜ (Tables m (now powers) (now logs)) × (s < 2 ^ m) × (step ≤ nOf m) × (count ≤ length (now entries)) ⌝ }
-    ensures { λ _. ⌜ Filled (plusMultiple m s step (now (entries .entry))) count (now (entries .entry)) (now (entries .exit)) ⌝ }
-{
-    if s != 0 {
-        let from = logs[s as usize] as usize;
-        add_walk(m, powers, from, step, count, entries);
-    }
-}
-
-// The same by exponents, so that each power is one look into the table. After the first few entries they go by fours, since none of the four looks waits for another.
-fn add_walk(m: usize, powers: &[u16], from: usize, step: usize, count: usize, entries: &mut [u16])
-    requires { ⌜ (Listed m) × (Powers m (now powers)) × (from < nOf m) × (step ≤ nOf m) × (count ≤ length (now entries)) ⌝ }
-    ensures { λ _. ⌜ Filled (plusWalk m from step (now (entries .entry))) count (now (entries .entry)) (now (entries .exit)) ⌝ }
-{
-    let n = n_of(m);
-    let one = around(n, step);
-    let two = around(n, 2 * one);
-    let three = around(n, two + one);
-    let four = around(n, 2 * two);
-    let mut j = count % 4;
-    let mut e = add_first(m, powers, from, one, j, entries);
-    while j < count {
-        add_four(powers, e, e + one, e + two, e + three, j, entries);
-        e = around(n, e + four);
-        j += 4;
-    }
-}
-
-// The first `count` entries one by one, exponents kept below n. Gives the exponent for the next.
-fn add_first(
-    m: usize,
-    powers: &[u16],
-    from: usize,
-    step: usize,
-    count: usize,
-    entries: &mut [u16],
-) -> usize
-    requires { ⌜ (Listed m) × (Powers m (now powers)) × (from < nOf m) × (step < nOf m) × (count ≤ length (now entries)) ⌝ }
-    ensures { λ r. ⌜ Walked m from step 0 count (now (entries .entry)) r (now (entries .exit)) ⌝ }
-{
-    let n = n_of(m);
-    let mut e = from;
-    let mut j = 0;
-    while j < count {
-        let s = entries[j];
-        entries[j] = s ^ powers[e];
-        e = around(n, e + step);
-        j += 1;
-    }
-    e
-}
-
-// To the four entries from place j on, the powers with these exponents.
-fn add_four(powers: &[u16], e: usize, f: usize, g: usize, h: usize, j: usize, entries: &mut [u16])
-    requires { ⌜ (e < length (now powers)) × (f < length (now powers)) × (g < length (now powers)) × (h < length (now powers)) × (j + 4 ≤ length (now entries)) ⌝ }
-    ensures { λ _. ⌜ now (entries .exit) ≡ plusFour (now (powers .entry)) e f g h j (now (entries .entry)) ⌝ }
-{
-    let first = entries[j];
-    entries[j] = first ^ powers[e];
-    let second = entries[j + 1];
-    entries[j + 1] = second ^ powers[f];
-    let third = entries[j + 2];
-    entries[j + 2] = third ^ powers[g];
-    let fourth = entries[j + 3];
-    entries[j + 3] = fourth ^ powers[h];
 }

@@ -10,7 +10,7 @@ use Rattle.entries.proofs.FillLaws.{fill-as}
 use Rattle.field.specs.Sum.{_⊕_}
 use Rattle.field.specs.Product.{Listed, _⊗⟨_⟩_}
 use Rattle.field.specs.Power.{a, nOf, power}
-use Rattle.field.specs.Multiples.{plusMultiple}
+use Rattle.walks.specs.Multiples.{plusMultiple}
 use Rattle.field.proofs.ProductLaws.{product-comm, product-assoc, product-one, one-product}
 use Rattle.field.proofs.PowerLaws.{one-power, power-add, power-mul, product-power, power-bound}
 use Rattle.field.proofs.Order.{eight-bound, power-mod, a-order}

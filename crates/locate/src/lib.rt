@@ -35,7 +35,7 @@ fn add_term(m: usize, powers: &[u16], logs: &[u16], s: u16, j: usize, values: &m
     let n = field::n_of(m);
     let down = j % n;
     let step = n - down;
-    field::add_multiples(m, powers, logs, s, step, n, values);
+    walks::add_multiples(m, powers, logs, s, step, n, values);
 }
 
 // The first n entries become the values of the first `count` coefficients, each where its place is tried.

@@ -20,8 +20,8 @@ use Rattle.codes.specs.Sums.{sumOf, sumOver}
 use Rattle.codes.proofs.SumLaws.{sum-cons, sum-append, sumOver-nil, sumOver-cons, sum-none}
 use Rattle.entries.specs.Entries.{Filled, nothing}
 use Rattle.entries.proofs.FillLaws.{fill-from, fill-as, fill-after}
-use Rattle.field.specs.Multiples.{plusMultiple}
-use Rattle.field.proofs.Walks.{around-below, around-power}
+use Rattle.walks.specs.Multiples.{plusMultiple}
+use Rattle.field.proofs.Exponents.{around-below, around-power}
 use Rattle.sums.specs.Rows.{plusPower, plusBit, wordSum, placeSum, OddSums}
 
 pub below-power : {m s : ℕ} (p : ℕ) → Listed m → s ≡ power m a p → s < 2 ^ m

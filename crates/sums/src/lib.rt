@@ -17,7 +17,7 @@ pub fn add_place(m: usize, powers: &[u16], logs: &[u16], p: usize, t: usize, sum
     let n = field::n_of(m);
     let x = field::power_of_a(m, powers, logs, p);
     let step = field::around(n, 2 * p);
-    field::add_multiples(m, powers, logs, x, step, t, sums);
+    walks::add_multiples(m, powers, logs, x, step, t, sums);
 }
 
 // The sums of a word's bit b at place p.

@@ -1,5 +1,5 @@
 -- By the test.
-use Rattle.field.proofs.Walks.{around-within, around-past}
+use Rattle.field.proofs.Exponents.{around-within, around-past}
 use Rattle.field.proofs.around.Statement.{statement}
 use Rattle.field.proofs.around.Tie as tie
 

@@ -11,7 +11,7 @@ use Rattle.field.specs.Tables.{Tables}
 use Rattle.field.proofs.Range.{sizes}
 use Rattle.field.proofs.ProductLaws.{product-zero, zero-product}
 use Rattle.field.proofs.PowerLaws.{power-add}
-use Rattle.field.proofs.Walks.{Logarithm, logarithm}
+use Rattle.field.proofs.Exponents.{Logarithm, logarithm}
 use Rattle.field.proofs.product.Statement.{statement}
 use Rattle.field.proofs.product.Tie as tie
 

@@ -2,7 +2,7 @@
 use mathlib.Core.Path.{refl}
 use native.Mathlib.Omega.{arith}
 use Rattle.field.proofs.Range.{sizes}
-use Rattle.field.proofs.Walks.{around-below}
+use Rattle.field.proofs.Exponents.{around-below}
 use Rattle.locate.proofs.TermLaws.{term-added}
 use borrow.Author.Needs.{needs}
 use Rattle.locate.proofs.add_term.Statement.{statement}

@@ -1,7 +1,7 @@
 -- By the square of a^p from a^p on.
 use Prim.Native.Nat.{_*_}
 use native.Mathlib.Omega.{arith}
-use Rattle.field.proofs.Walks.{around-below}
+use Rattle.field.proofs.Exponents.{around-below}
 use Rattle.sums.proofs.SumSteps.{below-power, place-added}
 use borrow.Author.Needs.{needs}
 use Rattle.sums.proofs.add_place.Statement.{statement}

@@ -3,7 +3,7 @@ use mathlib.Core.Path.{_≡_, _∙_, refl}
 use Prim.Native.Nat.{_-_, _≤_}
 use native.Mathlib.Omega.{arith}
 use Rattle.sums.proofs.SumSteps.{Placing, placing-start, placing-next, placing-done}
-use Rattle.field.proofs.Walks.{around-below, around-power}
+use Rattle.field.proofs.Exponents.{around-below, around-power}
 use Rattle.field.proofs.Range.{sizes}
 use Rattle.sums.proofs.place_sums.Statement.{statement}
 use Rattle.sums.proofs.place_sums.Tie as tie

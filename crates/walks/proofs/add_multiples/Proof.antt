@@ -1,9 +1,10 @@
 -- The walk starts at the logarithm of s.
 use native.Mathlib.Omega.{arith}
-use Rattle.field.proofs.Walks.{logarithm, multiples-added, multiples-skipped}
+use Rattle.field.proofs.Exponents.{logarithm}
+use Rattle.walks.proofs.Walks.{multiples-added, multiples-skipped}
 use borrow.Author.Needs.{needs}
-use Rattle.field.proofs.add_multiples.Statement.{statement}
-use Rattle.field.proofs.add_multiples.Tie as tie
+use Rattle.walks.proofs.add_multiples.Statement.{statement}
+use Rattle.walks.proofs.add_multiples.Tie as tie
 
 mul-from : tie.Need-mul-from
 mul-from c = search needs

@@ -1,12 +1,13 @@
 -- The loop keeps: the entries before j are done, as many left as go by fours, and e is the next exponent.
 use mathlib.Core.Path.{_≡_, _∙_}
-use Prim.Native.Nat.{_+_, _-_, _*_, _%_, _≤_}
+use Prim.Native.Nat.{_-_, _*_, _%_, _≤_}
 use native.Mathlib.Omega.{arith}
-use Rattle.field.specs.Multiples.{Walked}
+use Rattle.walks.specs.Multiples.{Walked}
 use Rattle.field.proofs.Range.{sizes}
-use Rattle.field.proofs.Walks.{around-below, walked-start, walked-to, walked-by, walked-four, strides, strides-within, walk-done}
-use Rattle.field.proofs.add_walk.Statement.{statement}
-use Rattle.field.proofs.add_walk.Tie as tie
+use Rattle.field.proofs.Exponents.{around-below}
+use Rattle.walks.proofs.Walks.{walked-start, walked-to, walked-by, walked-four, strides, strides-within, walk-done}
+use Rattle.walks.proofs.add_walk.Statement.{statement}
+use Rattle.walks.proofs.add_walk.Tie as tie
 
 abbrev Inv-loop : tie.InvT-loop
 Inv-loop m powers from step count entries₀ n one two three four j₀ e₀ entries j e = (j₀ ≤ j) × (j ≤ count) × ((count - j) % 4 ≡ 0) × Walked m e₀ one j₀ (j - j₀) entries₀ e entries

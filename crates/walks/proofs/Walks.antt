@@ -1,9 +1,8 @@
 -- Walking through the table of powers: exponents go up by a step, and around where they reach n.
 use mathlib.Core.Path.{_≡_, _∙_, refl, sym, ap, ap₂, subst}
 use mathlib.Core.List.{List}
-use mathlib.Core.Logic.{_≢_}
-use Prim.Native.Nat.{ℕ, _+_, _-_, _*_, _%_, _^_, _≤_, _<_}
-use native.Mathlib.Nat.{add-zero, mul-zero, mul-one, mul-comm, mul-add, mod-lt, mod-eq-of-lt, mod-eq-sub-mod}
+use Prim.Native.Nat.{ℕ, _+_, _-_, _*_, _%_, _≤_, _<_}
+use native.Mathlib.Nat.{add-zero, mul-zero, mul-one, mul-comm, mul-add}
 use native.Mathlib.Decide.{decLt}
 use borrow.Author.Count.{below-more}
 use native.Mathlib.Omega.{arith}
@@ -12,33 +11,15 @@ use lib.ListN.{length, getD, length-set}
 use lib.Seq.{getD-set-same, getD-set-other}
 use Rattle.entries.specs.Entries.{Filled}
 use Rattle.entries.proofs.FillLaws.{fill-from, fill-as}
 use Rattle.field.specs.Sum.{_⊕_}
 use Rattle.field.specs.Product.{Listed, _⊗⟨_⟩_}
 use Rattle.field.specs.Power.{a, nOf, power}
-use Rattle.field.specs.Tables.{Powers, Tables}
-use Rattle.field.specs.Multiples.{plusWalk, plusMultiple, plusAt, plusFour, Added, Walked}
+use Rattle.field.specs.Tables.{Powers}
+use Rattle.walks.specs.Multiples.{plusWalk, plusMultiple, plusAt, plusFour, Added, Walked}
 use Rattle.field.proofs.SumLaws.{sum-zero, xor-sum}
 use Rattle.field.proofs.ProductLaws.{zero-product}
 use Rattle.field.proofs.PowerLaws.{power-add, power-mul}
-use Rattle.field.proofs.Order.{eight-bound, power-mod, every-power}
-
--- once around at most
-
-pub around-within : {n e : ℕ} → e < n → e ≡ e % n
-around-within h = sym (mod-eq-of-lt h)
-
-pub around-past : {n e : ℕ} → e < 2 * n → n ≤ e → e - n ≡ e % n
-around-past {n} {e} h k = sym (mod-eq-sub-mod k ∙ mod-eq-of-lt less)
-  where
-    less : e - n < n
-    less = omega arith
-
-module _ {m : ℕ} (L : Listed m) where
-  pub around-below : {n r : ℕ} (e : ℕ) → n ≡ nOf m → r ≡ e % n → r < nOf m
-  around-below {n} {r} e is q = rw (q ∙ ap (λ k. e % k) is) (mod-lt e (omega (arith, eight-bound L)))
-
-  pub around-power : {n r : ℕ} (e : ℕ) → n ≡ nOf m → r ≡ e % n → power m a r ≡ power m a e
-  around-power {n} {r} e is q = ap (power m a) (q ∙ ap (λ k. e % k) is) ∙ power-mod L e
+use Rattle.field.proofs.Exponents.{around-below, around-power, Logarithm}
 
 -- one entry more, at place j
 added-next : {m i d j x : ℕ} (start step : ℕ) {before after : List ℕ} → Added m start step i d before after → j ≡ i + d → j < length before → x ≡ power m a (start + step * d)
@@ -216,17 +197,6 @@ walk-done {m} {n} {one} {c} {d} {e} {count} from step {before} {middle} {after} 
         subst (λ (k : ℕ). getD after k 0 ≡ getD middle k 0 ⊕ power m a (e + one * (i - c))) z (u .holds (i - c) (omega arith))
         ∙ ap₂ (λ x y. x ⊕ y) (s .added .high i (omega arith))
         (walked-on L from one e (one * (i - c)) c (i - c) (s .here) refl ∙ ap (λ (k : ℕ). power m a (from + one * k)) z ∙ near i)
-
--- the logarithm of x, as the table has it
-pub record Logarithm (m : ℕ) (logs : List ℕ) (x : ℕ) : Type 0 where
-  pub below : getD logs x 0 < nOf m
-  pub is : power m a (getD logs x 0) ≡ x
-
-pub logarithm : {m x : ℕ} {powers logs : List ℕ} → Tables m powers logs → x < 2 ^ m → x ≢ 0 → Logarithm m logs x
-logarithm {m} {x} {logs = logs} t h z =
-    let (i, b, e) = every-power (t .listed) x h z in
-    let l : getD logs x 0 ≡ i = ap (λ (y : ℕ). getD logs y 0) (sym e) ∙ t .logs-hold .holds i b in
-    record { below = rw l b; is = rw l e }
 
 -- from the logarithm of s on: s times each power
 pub multiples-added : {m s t : ℕ} {logs before after : List ℕ} (step : ℕ) → Listed m → Logarithm m logs s → Filled (plusWalk m (getD logs s 0) step before) t before after → Filled (plusMultiple m s step before) t before after

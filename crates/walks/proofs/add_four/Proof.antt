@@ -2,8 +2,8 @@
 use native.Mathlib.Omega.{arith}
 use lib.ListN.{length-set}
 use borrow.Author.Needs.{needs}
-use Rattle.field.proofs.add_four.Statement.{statement}
-use Rattle.field.proofs.add_four.Tie as tie
+use Rattle.walks.proofs.add_four.Statement.{statement}
+use Rattle.walks.proofs.add_four.Tie as tie
 
 mul-first : tie.Need-mul-first
 mul-first c = search needs

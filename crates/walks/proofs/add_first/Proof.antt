@@ -1,10 +1,10 @@
 -- The loop keeps: the powers for the entries before j are added, and e is the next exponent.
 use Prim.Native.Nat.{_-_, _≤_}
 use native.Mathlib.Omega.{arith}
-use Rattle.field.specs.Multiples.{Walked}
-use Rattle.field.proofs.Walks.{walked-start, walked-next, walked-to}
-use Rattle.field.proofs.add_first.Statement.{statement}
-use Rattle.field.proofs.add_first.Tie as tie
+use Rattle.walks.specs.Multiples.{Walked}
+use Rattle.walks.proofs.Walks.{walked-start, walked-next, walked-to}
+use Rattle.walks.proofs.add_first.Statement.{statement}
+use Rattle.walks.proofs.add_first.Tie as tie
 
 abbrev Inv-loop : tie.InvT-loop
 Inv-loop m powers from step count entries₀ n e₀ j₀ entries e j = (j ≤ count) × Walked m from step 0 j entries₀ e entries
