@@ -20,7 +20,7 @@ use Rattle.frame.specs.declared.reading.ReadFrame.the-variants.{Refused as Read
 use Rattle.frame.specs.Frame.{sentBit, wordOf, Lawful, messageBit}
 use Rattle.frame.specs.Make.{Made, Makes, makeRefusal, makingNumber}
 use Rattle.frame.specs.Read.{Reads, ReadsWord, ReadsNear, Carries, frameRefusal, leadRefusal, readNumber, readReading, readWrong}
-use Rattle.frame.specs.Line.{Writes}
+use Rattle.line.specs.Line.{Writes}
 use Rattle.frame.proofs.DigitLaws.{same-digits}
 use Rattle.frame.proofs.SentLaws.{sent-shifted}
 use Rattle.frame.proofs.PackLaws.{word-long, word-bits, word-at}

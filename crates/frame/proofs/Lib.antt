@@ -6,4 +6,3 @@ pub mod MessageLaws
 pub mod CodeLaws
 pub mod MakeLaws
 pub mod ReadLaws
-pub mod LineLaws

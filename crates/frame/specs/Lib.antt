@@ -1,5 +1,4 @@
 pub mod Frame
 pub mod Make
 pub mod Read
-pub mod Line
 pub mod Work

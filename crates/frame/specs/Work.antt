@@ -1,13 +1,11 @@
--- What the steps of making, reading and listing a frame hand to each other; no promise of an operation speaks of it.
+-- What the steps of making and reading a frame hand to each other; no promise of an operation speaks of it.
 use mathlib.Core.Path.{_≡_}
 use mathlib.Core.Bool.{cond}
-use mathlib.Core.List.{List, _++_}
-use Prim.Native.Nat.{ℕ, _+_, _-_, _/_, _%_, _^_, _≤_, _<_}
+use mathlib.Core.List.{List}
+use Prim.Native.Nat.{ℕ, _+_, _-_, _/_, _%_, _^_, _<_}
 use lib.Dec.{ltb}
 use lib.ListN.{length, getD}
-use lib.Seq.{sets}
 use Rattle.frame.specs.Frame.{sentBit, wordOf}
-use Rattle.frame.specs.Line.{decimal}
 
 -- the bit that a word sends under number q, 0 for the pad
 unfoldable pub airBit : List ℕ → ℕ → ℕ
@@ -31,13 +29,3 @@ pub record Packed (word frame : List ℕ) : Type 0 where
   pub bytes : (b : ℕ) → b < 32 → getD frame b 0 < 256
   pub pad : sentBit frame 255 ≡ 0
   pub is-word : wordOf frame ≡ word
-
--- the text is stored from index at on, and next is the index past it
-pub record Put (before : List ℕ) (at : ℕ) (text after : List ℕ) (next : ℕ) : Type 0 where
-  pub is : after ≡ sets before at text
-  pub next-is : next ≡ at + length text
-
--- a number of 64 bits, which has at most 20 digits, and the text after it
-pub record PutField (before : List ℕ) (at n : ℕ) (text after : List ℕ) (next : ℕ) : Type 0 where
-  pub put : Put before at (decimal n ++ text) after next
-  pub most : next ≤ at + 20 + length text

@@ -1,11 +1,9 @@
 // The reading frame: one reading as a word of the code (255, 99, 23) in 32 bytes.
 
-mod line;
 mod making;
 mod places;
 mod reading;
 
-pub use line::write_line;
 pub use making::Making;
 pub use making::make;
 pub use places::Place;

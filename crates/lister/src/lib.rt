@@ -72,9 +72,9 @@ fn add_line(number: u64, bytes: &[u8], end: usize, lines: &mut [u8]) -> usize
     ensures { λ r. ⌜ r ≤ end + 128 ⌝ }
 {
     let answer = frame::read(bytes);
-    let mut line = line_space();
-    let long = frame::write_line(number, answer, &mut line);
-    bits::copy_at(lines, end, &line[..long]);
+    let mut room = line_space();
+    let long = line::write_line(number, answer, &mut room);
+    bits::copy_at(lines, end, &room[..long]);
     end + long
 }
 

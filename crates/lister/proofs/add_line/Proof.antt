@@ -18,8 +18,8 @@ slice-aggregate-write-line c = search needs
 write-line-requires : tie.Need-write-line-requires
 write-line-requires c κs = search needs
 
-array-share-prefix-line : tie.Need-array-share-prefix-line
-array-share-prefix-line c = omega (arith, line-fits (c .before .before .write-line .ensures), c .before .before .write-line .kept .1 .1 .0, c .before .before .before .before .line-space .ensures)
+array-share-prefix-room : tie.Need-array-share-prefix-room
+array-share-prefix-room c = omega (arith, line-fits (c .before .before .write-line .ensures), c .before .before .write-line .kept .1 .1 .0, c .before .before .before .before .line-space .ensures)
 
 slice-aggregate-copy-at : tie.Need-slice-aggregate-copy-at
 slice-aggregate-copy-at c = simp length-take (omega (arith, line-fits (c .before .before .before .write-line .ensures), c .before .before .before .write-line .kept .1 .1 .0, c .before .before .before .before .before .line-space .ensures))
@@ -44,7 +44,7 @@ add-line-spec =
     line-space-requires
     slice-aggregate-write-line
     write-line-requires
-    array-share-prefix-line
+    array-share-prefix-room
     slice-aggregate-copy-at
     copy-at-requires
     add-result

@@ -2,10 +2,10 @@
 
 ghost use Prim.Native.Nat.{_+_, _≤_};
 ghost use lib.ListN.{length};
-ghost use Rattle.frame.specs.Line.{decimal, readLine, refusedLine, lineOf, Writes};
-ghost use Rattle.frame.specs.Work.{Put, PutField};
-use crate::places::Reading;
-use crate::reading::ReadFrame;
+ghost use Rattle.line.specs.Line.{decimal, readLine, refusedLine, lineOf, Writes};
+ghost use Rattle.line.specs.Work.{Put, PutField};
+use frame::ReadFrame;
+use frame::Reading;
 use sheet::Refusal;
 
 // The line of frame `number`; any line fits into 128 bytes. Gives its length.

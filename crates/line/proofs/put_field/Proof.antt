@@ -1,9 +1,9 @@
 -- The number has at most 20 digits, so the text after it fits.
 use borrow.Author.Needs.{needs}
 use native.Mathlib.Omega.{arith}
-use Rattle.frame.proofs.LineLaws.{decimal-fits, put-then, put-copied}
-use Rattle.frame.proofs.line.put_field.Statement.{statement}
-use Rattle.frame.proofs.line.put_field.Tie as tie
+use Rattle.line.proofs.LineLaws.{decimal-fits, put-then, put-copied}
+use Rattle.line.proofs.put_field.Statement.{statement}
+use Rattle.line.proofs.put_field.Tie as tie
 
 put-decimal-requires : tie.Need-put-decimal-requires
 put-decimal-requires c κs = omega (arith, decimal-fits {n = c .before .before .before .args .n} (omega arith))

@@ -1,8 +1,8 @@
 -- Five fields, each with the text after it.
 use borrow.Author.Needs.{needs}
-use Rattle.frame.proofs.LineLaws.{read-line}
-use Rattle.frame.proofs.line.write_read.Statement.{statement}
-use Rattle.frame.proofs.line.write_read.Tie as tie
+use Rattle.line.proofs.LineLaws.{read-line}
+use Rattle.line.proofs.write_read.Statement.{statement}
+use Rattle.line.proofs.write_read.Tie as tie
 
 slice-aggregate-put-field : tie.Need-slice-aggregate-put-field
 slice-aggregate-put-field c = search needs

@@ -1,8 +1,8 @@
 -- Two fields, each with the text after it.
 use borrow.Author.Needs.{needs}
-use Rattle.frame.proofs.LineLaws.{refused-line}
-use Rattle.frame.proofs.line.write_refused.Statement.{statement}
-use Rattle.frame.proofs.line.write_refused.Tie as tie
+use Rattle.line.proofs.LineLaws.{refused-line}
+use Rattle.line.proofs.write_refused.Statement.{statement}
+use Rattle.line.proofs.write_refused.Tie as tie
 
 number-requires : tie.Need-number-requires
 number-requires c κs = search needs

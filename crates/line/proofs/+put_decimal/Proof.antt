@@ -5,12 +5,12 @@ use native.Mathlib.Omega.{arith}
 use lib.ListN.{length, length-set}
 use borrow.Fn.Kinds.{In}
 use borrow.Fn.PlainCycle.{Measures, is, falls, and}
-use Rattle.frame.proofs.LineLaws.{decimal-small, decimal-more, decimal-longer, put-one, put-then}
-use Rattle.frame.proofs.line.put_decimal.Reads as put-decimal
-use Rattle.frame.proofs.line.put_decimal.Kinds as put-decimal-kinds
-use Rattle.frame.proofs.line.+put_decimal.Lts-put_decimal as put-decimal-lts
-use Rattle.frame.proofs.line.+put_decimal.{statement}
-use Rattle.frame.proofs.line.+put_decimal.Tie.{close}
+use Rattle.line.proofs.LineLaws.{decimal-small, decimal-more, decimal-longer, put-one, put-then}
+use Rattle.line.proofs.put_decimal.Reads as put-decimal
+use Rattle.line.proofs.put_decimal.Kinds as put-decimal-kinds
+use Rattle.line.proofs.+put_decimal.Lts-put_decimal as put-decimal-lts
+use Rattle.line.proofs.+put_decimal.{statement}
+use Rattle.line.proofs.+put_decimal.Tie.{close}
 
 abbrev μ-put-decimal : Measures 1 put-decimal-kinds.ps ℕ
 μ-put-decimal κs a = a .1 .1 .0

@@ -10,9 +10,9 @@ use lib.ListN.{length, take, drop, set, length-append}
 use lib.Seq.{sets, sets-eq, paste, take-length}
 use Rattle.sheet.specs.declared.Refusal.{Refusal}
 use Rattle.sheet.specs.Number.{numberOf}
-use Rattle.frame.specs.Line.{digitsUpTo, decimal, readText, refusedText, space, newline, readLine, refusedLine, Writes}
-use Rattle.frame.specs.Work.{Put, PutField}
+use Rattle.line.specs.Line.{digitsUpTo, decimal, readText, refusedText, space, newline, readLine, refusedLine, Writes}
+use Rattle.line.specs.Work.{Put, PutField}
 use Rattle.frame.specs.declared.places.Reading.{Reading}
 
 up-to-small : (more n : ℕ) → n < 10 → digitsUpTo (suc more) n ≡ (48 + n) ∷ []
 unfolding digitsUpTo

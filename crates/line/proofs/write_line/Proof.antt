@@ -3,10 +3,10 @@ use borrow.Author.Needs.{needs}
 use mathlib.Core.Path.{_≡_, sym, subst}
 use mathlib.Core.List.{List}
 use Prim.Native.Nat.{ℕ}
-use Rattle.frame.specs.Line.{lineOf, Writes}
+use Rattle.line.specs.Line.{lineOf, Writes}
 use Rattle.frame.specs.declared.reading.ReadFrame.{ReadFrame}
-use Rattle.frame.proofs.line.write_line.Statement.{statement}
-use Rattle.frame.proofs.line.write_line.Tie as tie
+use Rattle.line.proofs.write_line.Statement.{statement}
+use Rattle.line.proofs.write_line.Tie as tie
 
 in-case : (f : ℕ) {n : ℕ} {x y : ReadFrame} {lent left : List ℕ} → x ≡ y → Writes (lineOf f y) lent left n → Writes (lineOf f x) lent left n
 in-case f {n} {lent = lent} {left} e w = subst (λ (z : ReadFrame). Writes (lineOf f z) lent left n) (sym e) w
