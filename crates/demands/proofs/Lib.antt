@@ -8,3 +8,4 @@ pub mod FrameOutcome
 pub mod NoSet
 pub mod Cases
 pub mod CardOutcome
+pub mod Demands
