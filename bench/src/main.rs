@@ -57,7 +57,9 @@ fn main() {
             decode_with(code, wrong);
         }
         decode_random(code);
+        keep(code);
     }
+    frames();
 }
 
 /// 0, 1, 5, t and t + 1, each once and ascending.
@@ -93,6 +95,44 @@ fn decode_of(code: &Code, name: &str, received: &[u8]) {
     let mut word = vec![0; code.n];
     let mut list = vec![0; code.t];
     report(code, name, || card::decode(code.m, code.t, received, &mut word, &mut list).wrong);
+}
+
+/// Edit, Open, splices of several lengths that change every place, and Decode kept with t wrong places.
+fn keep(code: &Code) {
+    let mut made_up = MadeUp(7);
+    let mut word = vec![0; code.n];
+    let number = card::encode(code.m, code.t, &made_up.bits(code.k), &mut word);
+    assert_eq!(number, 0, "the code is listed");
+    let one = [1u8];
+    let mut edited = word.clone();
+    report(code, "Edit of 1 place", || card::edit(code.m, code.t, &mut edited, 0, &one) as usize);
+    made_up.flip(&mut word, code.t);
+    report(code, "Open", || card::open(code.m, code.t, &word).number as usize);
+    let opened = card::open(code.m, code.t, &word);
+    assert_eq!(opened.number, 0, "the word is taken");
+    for places in [1, 8, 64, 255] {
+        if places <= code.n {
+            let stretch: Vec<u8> = word[..places].iter().map(|bit| bit ^ 1).collect();
+            let name = format!("Splice of {places}");
+            report(code, &name, || card::splice(opened.record, 0, &stretch).number as usize);
+        }
+    }
+    let mut mended = vec![0; code.n];
+    let mut list = vec![0; code.t];
+    let name = format!("Decode kept, {} wrong", code.t);
+    report(code, &name, || card::decode_kept(opened.record, &mut mended, &mut list).wrong);
+}
+
+/// Making a frame, and reading it clean and with 5 wrong places.
+fn frames() {
+    let code = &CODES[1];
+    let mut frame = vec![0; 32];
+    report(code, "make a frame", || card::make_frame(1234, 56, 789_000_000_000, &mut frame) as usize);
+    report(code, "read a frame, 0 wrong", || card::read_frame(&frame).wrong);
+    for byte in frame.iter_mut().take(5) {
+        *byte ^= 16;
+    }
+    report(code, "read a frame, 5 wrong", || card::read_frame(&frame).wrong);
 }
 
 /// Times a call over several runs and prints a line.

@@ -26,7 +26,7 @@ same-length-2 : tie.Need-same-length-2
 same-length-2 c = search needs
 
 returns : tie.Need-returns
-returns c = search needs
+returns c = c .before .before .before .before .decode-listed .ensures
 
 returns-2 : tie.Need-returns-2
 returns-2 c = decode-early _ _ _ (looked _ _ _ (sym (c .before .look .given .1) ∙ c .before .before .before .look-up .ensures))

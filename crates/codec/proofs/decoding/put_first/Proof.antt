@@ -19,7 +19,7 @@ same-length-2 : tie.Need-same-length-2
 same-length-2 c = search needs
 
 returns : tie.Need-returns
-returns c = search needs
+returns c = c .before .before .before .before .put .ensures
 
 pub put-first-spec : {M : Type 1} → statement M
 put-first-spec =

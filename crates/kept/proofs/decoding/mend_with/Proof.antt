@@ -33,7 +33,7 @@ same-length-2 : tie.Need-same-length-2
 same-length-2 c = search needs
 
 returns : tie.Need-returns
-returns c = search needs
+returns c = c .before .before .before .before .put .ensures
 
 returns-2 : tie.Need-returns-2
 returns-2 c = (finds-none (told-nothing (c .before .before .before .locate .ensures) (c .enum-told .given .1)), λ n. (refl, refl))
