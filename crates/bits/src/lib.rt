@@ -5,7 +5,7 @@ ghost use mathlib.Core.List.{List·Memᴰ};
 ghost use Prim.Native.Nat.{ℕ, _+_, _≤_, _<_};
 ghost use lib.ListN.{length, take, replicate};
 ghost use lib.Seq.{paste};
-ghost use Rattle.bits.specs.Bits.{AreBits, firstAbove, runsPast, addedAt, flipped};
+ghost use Rattle.bits.specs.Bits.{AreBits, firstAbove, hasBadBit, runsPast, addedAt, flipped};
 
 // The first place that holds more than 1, or the length where there is none.
 pub fn first_above_one(s: &[u8]) -> usize
@@ -19,6 +19,14 @@ pub fn first_above_one(s: &[u8]) -> usize
         i += 1;
     }
     i
+}
+
+// Whether a place holds more than 1.
+pub fn has_bad_bit(s: &[u8]) -> bool
+    ensures { λ r. ⌜ r ≡ hasBadBit (now (s .entry)) ⌝ }
+{
+    let bad = first_above_one(s);
+    bad < s.len()
 }
 
 // Adds src into dst from place `at` on.
@@ -66,6 +74,26 @@ pub fn flip_all(dst: &mut [u8], places: &[u16], count: usize)
         dst[p] = 1 - dst[p];
         i += 1;
     }
+}
+
+// Room for any word and any generator.
+pub fn word_space() -> [u8; 1024]
+    ensures { λ r. ⌜ r ≡ replicate 1024 0 ⌝ }
+{
+    [0; 1024]
+}
+
+// The word with these places turned over, at the front of room for any word.
+pub fn turned_over(word: &[u8], places: &[u16]) -> [u8; 1024]
+    requires { ⌜ AreBits (now word) × (length (now word) ≤ 1024) × ((p : ℕ) → List·Memᴰ p (now places) → p < length (now word)) ⌝ }
+    ensures { λ r. ⌜ (1024 ≡ length r) × (take (length (now (word .entry))) r ≡ flipped (now (word .entry)) (now (places .entry))) ⌝ }
+{
+    let n = word.len();
+    let count = places.len();
+    let mut space = word_space();
+    copy_at(&mut space, 0, word);
+    flip_all(&mut space[..n], places, count);
+    space
 }
 
 // Whether so many places from `start` on run past the end. No sum of the two is made: it could wrap.

@@ -4,18 +4,18 @@ use mathlib.Core.List.{List}
 use Prim.Native.Nat.{ℕ}
 use Rattle.codec.specs.declared.describing.Described.{Described}
 use Rattle.codec.specs.declared.encoding.Encoded.{Encoded}
-use Rattle.codec.specs.declared.decoding.Decoded.{Decoded}
+use Rattle.decode.specs.declared.Decoded.{Decoded}
 use Rattle.codec.specs.declared.editing.Edited.{Edited}
 use Rattle.codec.specs.Describe.{Describes, describedNumber, describedN, describedK}
 use Rattle.codec.specs.Encode.{Encodes, encodedNumber}
-use Rattle.codec.specs.Decode.{Decodes, decodedNumber, decodedCount}
+use Rattle.decode.specs.Decode.{Decodes, decodedNumber, decodedCount}
 use Rattle.codec.specs.Edit.{Edits, editedNumber}
 use Rattle.kept.specs.declared.Kept.{Kept}
 use Rattle.kept.specs.declared.Answer.{Answer}
 use Rattle.kept.specs.Record.{outcomeNumber}
 use Rattle.kept.specs.Open.{Opens}
 use Rattle.kept.specs.Splice.{Splices}
-use Rattle.kept.specs.DecodeKept.{DecodesKept}
+use Rattle.decode_kept.specs.DecodeKept.{DecodesKept}
 use Rattle.frame.specs.declared.making.Making.{Making}
 use Rattle.frame.specs.declared.reading.ReadFrame.{ReadFrame}
 use Rattle.frame.specs.Make.{Makes, makingNumber}

@@ -3,10 +3,10 @@
 ghost use mathlib.Core.Path.{_≡_};
 ghost use Rattle.kept.specs.Record.{outcomeNumber};
 ghost use Rattle.card.specs.Answers.{DescribesAs, EncodesAs, DecodesAs, EditsAs, OpensAs, SplicesAs, DecodesKeptAs, MakesAs, ReadsAs};
-use codec::Decoded;
 use codec::Described;
 use codec::Edited;
 use codec::Encoded;
+use decode::Decoded;
 use frame::Making;
 use frame::ReadFrame;
 use frame::Reading;
@@ -81,7 +81,7 @@ pub extern "C" fn blentovar_decode(
 ) -> DecodeAnswer
     ensures { λ r. ⌜ DecodesAs m t (now (received .entry)) (now (word .entry)) (now (list .entry)) r (now (word .exit)) (now (list .exit)) ⌝ }
 {
-    let answer = codec::decode(m, t, received, word, list);
+    let answer = decode::decode(m, t, received, word, list);
     match answer {
         Decoded::Mended(wrong) => DecodeAnswer { number: 0, wrong },
         Decoded::Refused(r) => DecodeAnswer {
@@ -147,7 +147,7 @@ pub extern "C" fn blentovar_decode_kept(
 ) -> DecodeAnswer
     ensures { λ r. ⌜ DecodesKeptAs kept (now (word .entry)) (now (list .entry)) r (now (word .exit)) (now (list .exit)) ⌝ }
 {
-    let answer = kept::decode_kept(kept, word, list);
+    let answer = decode_kept::decode_kept(kept, word, list);
     match answer {
         Decoded::Mended(wrong) => DecodeAnswer { number: 0, wrong },
         Decoded::Refused(r) => DecodeAnswer {

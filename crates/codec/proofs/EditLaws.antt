@@ -26,7 +26,7 @@ use Rattle.codes.specs.Encoding.{Encoding}
 use Rattle.parity.specs.Work.{MessageChange}
 use Rattle.codec.specs.Edit.{Edits, Editing, editRefusal}
 use Rattle.codec.proofs.DescribeLaws.{row-code}
-use Rattle.codec.proofs.DecodeSteps.{refusal-not}
+use Rattle.sheet.proofs.NumberLaws.{refusal-not}
 
 -- what a stretch that ends within the message allows
 pub record StretchRoom (d k n start long : ℕ) : Type 0 where

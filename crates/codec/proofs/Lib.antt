@@ -1,5 +1,3 @@
 pub mod DescribeLaws
 pub mod EncodeLaws
-pub mod DecodeLaws
-pub mod DecodeSteps
 pub mod EditLaws

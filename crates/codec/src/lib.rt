@@ -1,12 +1,9 @@
-// The operations on whole words: Describe, Encode, Decode, Edit.
+// The operations on words that are sent: Describe, Encode, Edit.
 
-mod decoding;
 mod describing;
 mod editing;
 mod encoding;
 
-pub use decoding::Decoded;
-pub use decoding::decode;
 pub use describing::Described;
 pub use describing::describe;
 pub use editing::Edited;

@@ -58,13 +58,6 @@ pub fn look_up(m: usize, t: usize) -> Look
     }
 }
 
-// Room for any generator and any word.
-pub fn word_space() -> [u8; 1024]
-    ensures { λ r. ⌜ r ≡ replicate 1024 0 ⌝ }
-{
-    [0; 1024]
-}
-
 // Adds old, moved up by e places, into g where p's digit e is 1, as far as g reaches.
 fn add_tap(g: &mut [u8], old: &[u8], e: usize, p: u16)
     requires { ⌜ AreBits (now g) × AreBits (now old) × (length (now old) ≡ length (now g)) × (e < 16) ⌝ }
@@ -98,7 +91,7 @@ fn multiply(g: &mut [u8], p: u16)
     ensures { λ _. ⌜ Multiplied p (now (g .entry)) (now (g .exit)) ⌝ }
 {
     let n = g.len();
-    let mut space = word_space();
+    let mut space = bits::word_space();
     bits::copy_at(&mut space, 0, g);
     bits::clear(g);
     add_taps(g, &space[..n], p);
@@ -141,7 +134,7 @@ pub fn generator(m: usize, row: usize, d: usize) -> [u8; 1024]
     requires { ⌜ RowOf m row × (d ≡ nOf m - getD ks row 0) ⌝ }
     ensures { λ r. ⌜ Generator m (getD Table·ts row 0) d (take (d + 1) r) × (1024 ≡ length r) ⌝ }
 {
-    let mut space = word_space();
+    let mut space = bits::word_space();
     let end = d + 1;
     fill_generator(m, row, &mut space[..end]);
     space

@@ -4,7 +4,7 @@ use mathlib.Core.List.{List}
 use Prim.Native.Nat.{ℕ}
 use Rattle.codec.specs.Describe.{describedNumber, describedN, describedK}
 use Rattle.codec.specs.Encode.{encodedNumber}
-use Rattle.codec.specs.Decode.{decodedNumber, decodedCount}
+use Rattle.decode.specs.Decode.{decodedNumber, decodedCount}
 use Rattle.codec.specs.Edit.{editedNumber}
 use Rattle.kept.specs.declared.Kept.{Kept}
 use Rattle.kept.specs.declared.Answer.{Answer}

@@ -24,12 +24,12 @@ use Rattle.codes.specs.Encoding.{Encoding}
 use Rattle.codes.proofs.SumLaws.{odd-sums}
 use Rattle.codec.specs.declared.encoding.Encoded.{Encoded}
 use Rattle.codec.specs.declared.encoding.Encoded.the-variants.{Done}
-use Rattle.codec.specs.declared.decoding.Decoded.{Decoded}
-use Rattle.codec.specs.declared.decoding.Decoded.the-variants.{Mended, Refused}
+use Rattle.decode.specs.declared.Decoded.{Decoded}
+use Rattle.decode.specs.declared.Decoded.the-variants.{Mended, Refused}
 use Rattle.codec.specs.Encode.{Encodes, encodeRefusal}
-use Rattle.codec.specs.Work.{Ready}
-use Rattle.codec.specs.Decode.{Decodes, decodeRefusal, decodedNumber}
-use Rattle.codec.proofs.DecodeLaws.{near-located}
+use Rattle.decode.specs.Work.{Ready}
+use Rattle.decode.specs.Decode.{Decodes, decodeRefusal, decodedNumber}
+use Rattle.decode.proofs.DecodeLaws.{near-located}
 use Rattle.demands.proofs.OneOutcome.{encoded-tells, encode-listed, encoding-one}
 use Rattle.demands.proofs.Near.{decode-ready, decoded-tells, refused-count, mended-is}
 use Rattle.demands.proofs.NoSet.{zeroes, plusPlace, noSet, nothing-located}

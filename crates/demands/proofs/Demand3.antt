@@ -21,15 +21,15 @@ use Rattle.field.proofs.Range.{sizes}
 use Rattle.codes.specs.Look.{Accepted}
 use Rattle.codes.specs.Sums.{sumOf, sumOver}
 use Rattle.codes.proofs.SumLaws.{sum-bounded, sum-differences}
-use Rattle.codec.specs.declared.decoding.Decoded.{Decoded}
-use Rattle.codec.specs.Decode.{Decodes, Finds, Mends, decodeRefusal}
-use Rattle.codec.proofs.DecodeLaws.{mends, nothing-near}
+use Rattle.decode.specs.declared.Decoded.{Decoded}
+use Rattle.decode.specs.Decode.{Decodes, Finds, Mends, decodeRefusal}
+use Rattle.decode.proofs.DecodeLaws.{mends, nothing-near}
 use Rattle.kept.specs.declared.Kept.{Kept}
 use Rattle.kept.specs.declared.Answer.{Answer}
 use Rattle.kept.specs.Record.{badRecord}
 use Rattle.kept.specs.Open.{Opens, Opened, openRefusal}
 use Rattle.kept.specs.Splice.{Splices, Spliced, spliceRefusal}
-use Rattle.kept.specs.DecodeKept.{DecodesKept, FindsKept, decodeKeptRefusal}
+use Rattle.decode_kept.specs.DecodeKept.{DecodesKept, FindsKept, decodeKeptRefusal}
 use Rattle.kept.proofs.RecordLaws.{sound-passes}
 use Rattle.demands.proofs.Near.{decode-one}
 use Rattle.demands.proofs.KeptOutcome.{OpenReady, open-ready, SpliceReady, splice-ready, answer-same, opened-one}

@@ -13,17 +13,17 @@ use Rattle.codes.specs.Sums.{CodeWord}
 use Rattle.codes.specs.Encoding.{Encoding}
 use Rattle.codec.specs.declared.describing.Described.{Described}
 use Rattle.codec.specs.declared.encoding.Encoded.{Encoded}
-use Rattle.codec.specs.declared.decoding.Decoded.{Decoded}
+use Rattle.decode.specs.declared.Decoded.{Decoded}
 use Rattle.codec.specs.declared.editing.Edited.{Edited}
 use Rattle.codec.specs.Describe.{Describes}
 use Rattle.codec.specs.Encode.{Encodes, encodeRefusal}
-use Rattle.codec.specs.Decode.{Decodes, Far, decodeRefusal, decodedNumber, decodedCount}
+use Rattle.decode.specs.Decode.{Decodes, Far, decodeRefusal, decodedNumber, decodedCount}
 use Rattle.codec.specs.Edit.{Edits, editRefusal}
 use Rattle.kept.specs.declared.Kept.{Kept}
 use Rattle.kept.specs.declared.Answer.{Answer}
 use Rattle.kept.specs.Open.{Opens, openRefusal}
 use Rattle.kept.specs.Splice.{Splices, spliceRefusal}
-use Rattle.kept.specs.DecodeKept.{DecodesKept}
+use Rattle.decode_kept.specs.DecodeKept.{DecodesKept}
 use Rattle.frame.specs.declared.places.Reading.{Reading}
 use Rattle.frame.specs.declared.making.Making.{Making}
 use Rattle.frame.specs.declared.reading.ReadFrame.{ReadFrame}

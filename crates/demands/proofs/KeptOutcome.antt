@@ -18,8 +18,8 @@ use Rattle.field.proofs.Range.{sizes}
 use Rattle.codes.specs.Look.{Accepted}
 use Rattle.codes.proofs.LookLaws.{code-listed, accepted}
 use Rattle.locate.proofs.FindLaws.{one-set}
-use Rattle.codec.specs.declared.decoding.Decoded.{Decoded}
-use Rattle.codec.specs.Decode.{decodedNumber}
+use Rattle.decode.specs.declared.Decoded.{Decoded}
+use Rattle.decode.specs.Decode.{decodedNumber}
 use Rattle.kept.specs.declared.Kept.{Kept}
 use Rattle.kept.specs.declared.Answer.{Answer}
 use Rattle.kept.specs.declared.Outcome.{Outcome}
@@ -27,7 +27,7 @@ use Rattle.kept.specs.declared.Outcome.the-variants.{Done, Refused}
 use Rattle.kept.specs.Record.{outcomeNumber, badRecord}
 use Rattle.kept.specs.Open.{Opens, Opened, openRefusal}
 use Rattle.kept.specs.Splice.{Splices, Spliced, spliceRefusal, plusChange}
-use Rattle.kept.specs.DecodeKept.{DecodesKept, decodeKeptRefusal}
+use Rattle.decode_kept.specs.DecodeKept.{DecodesKept, decodeKeptRefusal}
 use Rattle.kept.proofs.RecordLaws.{kept-same}
 use Rattle.kept.proofs.SpliceLaws.{none-added}
 use Rattle.demands.proofs.Near.{passed, decoded-tells, refused-alike}

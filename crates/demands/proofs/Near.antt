@@ -21,11 +21,11 @@ use Rattle.field.specs.Power.{nOf}
 use Rattle.codes.specs.Sums.{CodeWord, sumOf}
 use Rattle.codes.proofs.LookLaws.{code-listed, accepted}
 use Rattle.locate.proofs.FindLaws.{one-set}
-use Rattle.codec.specs.declared.decoding.Decoded.{Decoded}
-use Rattle.codec.specs.declared.decoding.Decoded.the-variants.{Mended, Refused}
-use Rattle.codec.specs.Work.{Ready}
-use Rattle.codec.specs.Decode.{Decodes, Kept, Mends, decodeRefusal, decodedNumber, decodedCount}
-use Rattle.codec.proofs.DecodeLaws.{near-located}
+use Rattle.decode.specs.declared.Decoded.{Decoded}
+use Rattle.decode.specs.declared.Decoded.the-variants.{Mended, Refused}
+use Rattle.decode.specs.Work.{Ready}
+use Rattle.decode.specs.Decode.{Decodes, Kept, Mends, decodeRefusal, decodedNumber, decodedCount}
+use Rattle.decode.proofs.DecodeLaws.{near-located}
 
 -- what came in: n bits
 module _ {m t : ℕ} (L : Listed m) {received : List ℕ} (B : AreBits received) (long : length received ≡ nOf m) where

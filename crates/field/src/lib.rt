@@ -78,6 +78,23 @@ pub fn fill_logs(m: usize, powers: &[u16], logs: &mut [u16])
     }
 }
 
+pub struct FieldTables {
+    pub powers: [u16; 2046],
+    pub logs: [u16; 1024],
+}
+
+// Both tables of this m.
+pub fn tables(m: usize) -> FieldTables
+    requires { ⌜ Listed m ⌝ }
+    ensures { λ r. ⌜ Tables m (r .powers) (r .logs) ⌝ }
+{
+    let mut powers = powers_space();
+    let mut logs = logs_space();
+    fill_powers(m, &mut powers);
+    fill_logs(m, &powers, &mut logs);
+    FieldTables { powers, logs }
+}
+
 // The product by the two tables: logarithms add up, and 0 has none.
 pub fn product(m: usize, powers: &[u16], logs: &[u16], x: u16, y: u16) -> u16
     requires { ⌜ (Tables m (now powers) (now logs)) × (x < 2 ^ m) × (y < 2 ^ m) ⌝ }

@@ -67,10 +67,9 @@ fn sums_line(powers: &[u16], logs: &[u16])
 }
 
 fn gf16() {
-    let mut powers = field::powers_space();
-    let mut logs = field::logs_space();
-    field::fill_powers(4, &mut powers);
-    field::fill_logs(4, &powers, &mut logs);
+    let tables = field::tables(4);
+    let powers = tables.powers;
+    let logs = tables.logs;
     powers_line(&powers, &logs);
     roots_line(&powers, &logs);
     sums_line(&powers, &logs);
@@ -96,10 +95,9 @@ fn values_line(m: usize, powers: &[u16], logs: &[u16])
 fn field_line(m: usize)
     requires { ⌜ Listed m ⌝ }
 {
-    let mut powers = field::powers_space();
-    let mut logs = field::logs_space();
-    field::fill_powers(m, &mut powers);
-    field::fill_logs(m, &powers, &mut logs);
+    let tables = field::tables(m);
+    let powers = tables.powers;
+    let logs = tables.logs;
     values_line(m, &powers, &logs);
 }
 

@@ -13,7 +13,7 @@ use Rattle.codes.specs.Table.{ListedCode, ks, ts, first, firsts}
 use Rattle.codes.specs.Look.{kOf}
 use Rattle.codes.proofs.LookLaws.{listed-k, code-accepted}
 use Rattle.codec.specs.Encode.{encodeRefusal}
-use Rattle.codec.specs.Decode.{decodeRefusal}
+use Rattle.decode.specs.Decode.{decodeRefusal}
 
 pub listed : ListedCode 8 99 23
 unfolding ks ts first firsts

@@ -10,11 +10,11 @@ use lib.ListN.{length, getD}
 use Rattle.sheet.specs.declared.Refusal.{Refusal}
 use Rattle.sheet.specs.declared.Refusal.the-variants.{FrameLength, PadBit, LeadBits}
 use Rattle.sheet.proofs.NumberLaws.{number-positive}
-use Rattle.codec.specs.declared.decoding.Decoded.{Decoded}
-use Rattle.codec.specs.declared.decoding.Decoded.the-variants.{Mended}
-use Rattle.codec.specs.declared.decoding.Decoded.the-variants.{Refused as DecodeRefused}
-use Rattle.codec.specs.Decode.{Decodes, Mends, decodedNumber, decodedCount}
-use Rattle.codec.specs.Decode.{Finds as DecodeFinds}
+use Rattle.decode.specs.declared.Decoded.{Decoded}
+use Rattle.decode.specs.declared.Decoded.the-variants.{Mended}
+use Rattle.decode.specs.declared.Decoded.the-variants.{Refused as DecodeRefused}
+use Rattle.decode.specs.Decode.{Decodes, Mends, decodedNumber, decodedCount}
+use Rattle.decode.specs.Decode.{Finds as DecodeFinds}
 use Rattle.frame.specs.Frame.{sentBit, wordOf, messageBit}
 use Rattle.frame.specs.Read.{Reads, ReadsWord, Finds, Carries, frameRefusal, leadRefusal}
 use Rattle.frame.specs.Work.{Gathered}

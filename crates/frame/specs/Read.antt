@@ -9,7 +9,7 @@ use lib.ListN.{length, getD}
 use Rattle.sheet.specs.Number.{numberOf, refuseIf}
 use Rattle.bits.specs.Differences.{distance}
 use Rattle.codes.specs.Sums.{CodeWord}
-use Rattle.codec.specs.Decode.{Far}
+use Rattle.decode.specs.Decode.{Far}
 use Rattle.frame.specs.Frame.{sentBit, wordOf, Lawful, messageBit}
 use Rattle.frame.specs.declared.places.Reading.{Reading}
 use Rattle.frame.specs.declared.reading.ReadFrame.{ReadFrame}

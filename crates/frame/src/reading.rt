@@ -9,7 +9,7 @@ use crate::places;
 use crate::places::Place;
 use crate::places::Reading;
 use crate::places::Sent;
-use codec::Decoded;
+use decode::Decoded;
 use sheet::Refusal;
 
 pub enum ReadFrame {
@@ -39,7 +39,7 @@ fn find(frame: &[u8]) -> ReadFrame
     let mut word = places::word_space();
     let mut list = list_space();
     unpack(frame, &mut received);
-    let answer = codec::decode(8, 23, &received, &mut word, &mut list);
+    let answer = decode::decode(8, 23, &received, &mut word, &mut list);
     match answer {
         Decoded::Mended(wrong) => read_word(&word, wrong),
         Decoded::Refused(r) => ReadFrame::Refused(r),

@@ -88,7 +88,7 @@ fn splice_refused(t: usize, n: usize, step: Step) -> Step
 }
 
 fn decode_into(record: Kept, word: &mut [u8], list: &mut [u16], tally: Tally) -> Tally {
-    let answer = kept::decode_kept(record, word, list);
+    let answer = decode_kept::decode_kept(record, word, list);
     let answered = tally::with_answer(tally, answer);
     tally::with_buffers(answered, word, list)
 }

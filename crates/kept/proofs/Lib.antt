@@ -1,4 +1,3 @@
 pub mod RecordLaws
 pub mod OpenLaws
 pub mod SpliceLaws
-pub mod DecodeKeptLaws

@@ -18,7 +18,7 @@ use Rattle.bits.proofs.BitLaws.{padded-at, zeros-at}
 use Rattle.bits.proofs.Turns.{paste-at, paste-after}
 use Rattle.field.specs.Power.{nOf}
 use Rattle.codes.specs.Look.{codeRefusal, Accepted}
-use Rattle.codec.proofs.DecodeSteps.{refusal-not}
+use Rattle.sheet.proofs.NumberLaws.{refusal-not}
 use Rattle.kept.specs.declared.Answer.{Answer}
 use Rattle.kept.specs.declared.Outcome.the-variants.{Done, Refused}
 use Rattle.kept.specs.Record.{outcomeNumber, zeroKept}

@@ -26,7 +26,7 @@ use Rattle.codes.specs.Look.{codeRefusal, Accepted}
 use Rattle.codes.specs.Sums.{sumOver}
 use Rattle.codes.proofs.SumLaws.{sumOver-nil}
 use Rattle.sums.proofs.SumSteps.{sumOver-snoc}
-use Rattle.codec.proofs.DecodeSteps.{refusal-not}
+use Rattle.sheet.proofs.NumberLaws.{refusal-not}
 use Rattle.kept.specs.declared.Kept.{Kept}
 use Rattle.kept.specs.declared.Answer.{Answer}
 use Rattle.kept.specs.declared.Outcome.the-variants.{Done, Refused}

@@ -1,5 +1,4 @@
 pub mod Record
 pub mod Open
 pub mod Splice
-pub mod DecodeKept
 pub mod Work

@@ -1,4 +1,4 @@
--- What the steps of Splice and of Decode kept hand to each other; no promise of an operation speaks of it.
+-- What the steps of Splice hand to each other, and what check 7 leaves; no promise of an operation speaks of it.
 use mathlib.Core.Path.{_≡_}
 use mathlib.Core.List.{List}
 use mathlib.Core.Logic.{_≢_}
@@ -10,7 +10,6 @@ use Rattle.bits.specs.Differences.{differences}
 use Rattle.entries.specs.Entries.{Filled}
 use Rattle.field.specs.Sum.{_⊕_}
 use Rattle.field.specs.Power.{a, nOf, power}
-use Rattle.codes.specs.Look.{Accepted}
 use Rattle.codes.specs.Sums.{sumOver}
 use Rattle.sums.specs.Rows.{plusPower}
 use Rattle.kept.specs.declared.Kept.{Kept}
@@ -35,10 +34,3 @@ pub record StretchSpliced (m t start : ℕ) (stretch bits sums bits′ sums′ :
 pub record Sound (k : Kept) : Type 0 where
   pub bits : AreBits (take (nOf (k .m)) (k .bits))
   pub sums : (i : ℕ) → i < k .t → getD (k .sums) i 0 < 2 ^ k .m
-
--- the checks of Decode kept have passed
-pub record Ready (k : Kept) (word list : List ℕ) : Type 0 where
-  pub accepted : Accepted (k .m) (k .t)
-  pub sound : Sound k
-  pub word-long : length word ≡ nOf (k .m)
-  pub list-long : length list ≡ k .t

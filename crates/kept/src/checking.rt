@@ -1,19 +1,10 @@
-// What the operations look at before they work: the bits of a lent slice, and check 7 of a kept record.
+// Check 7 of a kept record.
 
 ghost use mathlib.Core.Path.{_≡_};
-ghost use Rattle.bits.specs.Bits.{hasBadBit};
 ghost use Rattle.field.specs.Power.{nOf};
 ghost use Rattle.codes.specs.Look.{Accepted};
 ghost use Rattle.kept.specs.Record.{someAtLeast, badRecord};
 use crate::Kept;
-
-// Whether a place holds more than 1.
-pub(crate) fn has_bad_bit(places: &[u8]) -> bool
-    ensures { λ r. ⌜ r ≡ hasBadBit (now (places .entry)) ⌝ }
-{
-    let bad = bits::first_above_one(places);
-    bad < places.len()
-}
 
 // Whether one of the entries is the bound or more.
 fn some_at_least(bound: usize, entries: &[u16]) -> bool
@@ -31,12 +22,12 @@ fn some_at_least(bound: usize, entries: &[u16]) -> bool
 }
 
 // Check 7, n being that of the record's m.
-pub(crate) fn is_bad(kept: Kept, n: usize) -> bool
+pub fn is_bad(kept: Kept, n: usize) -> bool
     requires { ⌜ Accepted (kept .m) (kept .t) × (n ≡ nOf (kept .m)) ⌝ }
     ensures { λ r. ⌜ r ≡ badRecord kept ⌝ }
 {
     let bits = kept.bits;
-    let bad = has_bad_bit(&bits[..n]);
+    let bad = bits::has_bad_bit(&bits[..n]);
     if bad {
         return true;
     }

@@ -1,11 +1,10 @@
-// The kept record: Open, Splice, Decode kept.
+// The kept record: Open and Splice.
 
 mod checking;
-mod decoding;
 mod opening;
 mod splicing;
 
-pub use decoding::decode_kept;
+pub use checking::is_bad;
 pub use opening::open;
 use sheet::Refusal;
 pub use splicing::splice;

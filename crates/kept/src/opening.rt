@@ -13,7 +13,6 @@ ghost use Rattle.kept.specs.Open.{Opens, Opened};
 use crate::Answer;
 use crate::Kept;
 use crate::Outcome;
-use crate::checking;
 use codes::Look;
 use sheet::Refusal;
 
@@ -36,7 +35,7 @@ fn open_listed(m: usize, t: usize, word: &[u8]) -> Answer
     if word.len() != n {
         return refused(Refusal::InputLength);
     }
-    let bad = checking::has_bad_bit(word);
+    let bad = bits::has_bad_bit(word);
     if bad {
         return refused(Refusal::BitAboveOne);
     }
@@ -46,16 +45,12 @@ fn open_listed(m: usize, t: usize, word: &[u8]) -> Answer
     }
 }
 
-// Past the checks: the two tables for this m, and the work.
+// Past the checks.
 fn opened(m: usize, t: usize, word: &[u8]) -> Kept
     requires { ⌜ Accepted m t × (length (now word) ≡ nOf m) × AreBits (now word) ⌝ }
     ensures { λ r. ⌜ Opened m t (now (word .entry)) r ⌝ }
 {
-    let mut powers = field::powers_space();
-    let mut logs = field::logs_space();
-    field::fill_powers(m, &mut powers);
-    field::fill_logs(m, &powers, &mut logs);
-    let sums = sums::odd_sums(m, t, &powers, &logs, word);
+    let sums = search::odd_sums(m, t, word);
     let bits = padded(word);
     Kept { m, t, bits, sums }
 }

@@ -34,7 +34,7 @@ fn splice_listed(kept: Kept, start: usize, stretch: &[u8]) -> Answer
     let n = field::n_of(kept.m);
     let wrong = checking::is_bad(kept, n);
     let past = bits::runs_past(start, stretch.len(), n);
-    let bad = checking::has_bad_bit(stretch);
+    let bad = bits::has_bad_bit(stretch);
     if wrong {
         return refused(Refusal::RecordContents, kept);
     }
@@ -59,10 +59,9 @@ fn spliced(kept: Kept, start: usize, stretch: &[u8]) -> Kept
     let t = kept.t;
     let mut bits = kept.bits;
     let mut sums = kept.sums;
-    let mut powers = field::powers_space();
-    let mut logs = field::logs_space();
-    field::fill_powers(m, &mut powers);
-    field::fill_logs(m, &powers, &mut logs);
+    let tables = field::tables(m);
+    let powers = tables.powers;
+    let logs = tables.logs;
     splice_stretch(m, &powers, &logs, t, start, stretch, &mut bits, &mut sums);
     Kept { m, t, bits, sums }
 }

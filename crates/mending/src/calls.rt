@@ -1,7 +1,7 @@
 // Calls of Decode with no fault, with one and with several; a line says what was lent, the answer, and whether each lent buffer is as it was.
 
 ghost use Prim.Native.Nat.{_≤_, _<_};
-use codec::Decoded;
+use decode::Decoded;
 use workbench::room;
 use workbench::text::end_line;
 use workbench::text::print;
@@ -30,7 +30,7 @@ fn print_decoded(answer: Decoded) {
 }
 
 fn decode_into(m: usize, t: usize, received: &[u8], word: &mut [u8], list: &mut [u16]) {
-    let answer = codec::decode(m, t, received, word, list);
+    let answer = decode::decode(m, t, received, word, list);
     print_decoded(answer);
     print_kept(room::word_is_kept(word));
     print_kept(room::list_is_kept(list));

@@ -36,7 +36,7 @@ fn add_parity(word: &mut [u8], g: &[u8], d: usize)
     ensures { λ _. ⌜ WithParity d (now (g .entry)) (now (word .entry)) (now (word .exit)) ⌝ }
 {
     let n = word.len();
-    let mut space = codes::word_space();
+    let mut space = bits::word_space();
     bits::copy_at(&mut space, 0, word);
     codes::reduce(&mut space[..n], g, d);
     bits::add_at(word, 0, &space[..d]);
@@ -48,7 +48,7 @@ pub fn code_word(m: usize, row: usize, d: usize, message: &[u8]) -> [u8; 1024]
     ensures { λ r. ⌜ Encoding m (getD ts row 0) (getD ks row 0) (now (message .entry)) (take (nOf m) r) × (1024 ≡ length r) ⌝ }
 {
     let n = d + message.len();
-    let mut space = codes::word_space();
+    let mut space = bits::word_space();
     fill_word(m, row, d, message, &mut space[..n]);
     space
 }
@@ -59,7 +59,7 @@ pub fn message_change(word: &[u8], at: usize, start: usize, stretch: &[u8]) -> [
     ensures { λ r. ⌜ MessageChange (now (word .entry)) at start (now (stretch .entry)) r ⌝ }
 {
     let end = at + stretch.len();
-    let mut change = codes::word_space();
+    let mut change = bits::word_space();
     bits::add_at(&mut change, start, stretch);
     bits::add_at(&mut change, start, &word[at..end]);
     change

@@ -48,3 +48,7 @@ number-positive FrameLength = omega arith
 number-positive PadBit = omega arith
 number-positive LeadBits = omega arith
 number-positive StretchEnd = omega arith
+
+-- no refusal has the number 0
+pub refusal-not : (r : Refusal) → numberOf r ≡ 0 → ⊥
+refusal-not r z = omega (arith, number-positive r)

@@ -8,7 +8,7 @@ use crate::mixing::mix_word;
 use crate::mixing::plus;
 use crate::room;
 use crate::text::print_number;
-use codec::Decoded;
+use decode::Decoded;
 use sheet::Refusal;
 
 // The state is that of the generator that made the words.
@@ -103,7 +103,7 @@ fn decode_into(
     list: &mut [u16],
     tally: Tally,
 ) -> Tally {
-    let answer = codec::decode(m, t, received, word, list);
+    let answer = decode::decode(m, t, received, word, list);
     let answered = with_answer(tally, answer);
     with_buffers(answered, word, list)
 }

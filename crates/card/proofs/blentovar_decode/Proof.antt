@@ -1,7 +1,7 @@
 -- The answer's case gives its number and the number of wrong places.
 use borrow.Author.Needs.{needs}
 use mathlib.Core.Path.{_∙_, sym, ap}
-use Rattle.codec.specs.Decode.{decodedNumber, decodedCount}
+use Rattle.decode.specs.Decode.{decodedNumber, decodedCount}
 use borrow.Author.Needs.{needs}
 use Rattle.card.proofs.blentovar_decode.Statement.{statement}
 use Rattle.card.proofs.blentovar_decode.Tie as tie

@@ -1,6 +1,6 @@
 -- The answer's case gives its number and count.
 use mathlib.Core.Path.{_∙_, sym, ap}
-use Rattle.codec.specs.Decode.{decodedNumber, decodedCount}
+use Rattle.decode.specs.Decode.{decodedNumber, decodedCount}
 use borrow.Author.Needs.{needs}
 use Rattle.card.proofs.blentovar_decode_kept.Statement.{statement}
 use Rattle.card.proofs.blentovar_decode_kept.Tie as tie

@@ -1,33 +1,15 @@
--- The rooms are long enough for every m.
+-- A record has room for the places of every m.
 use mathlib.Core.Path.{_≡_, refl}
 use lib.ListN.{length}
 use native.Mathlib.Omega.{arith}
-use Rattle.field.proofs.Range.{sizes, powers-room}
+use Rattle.field.proofs.Range.{sizes}
 use Rattle.kept.proofs.SpliceLaws.{spliced-parts}
 use borrow.Author.Needs.{needs}
 use Rattle.kept.proofs.splicing.spliced.Statement.{statement}
 use Rattle.kept.proofs.splicing.spliced.Tie as tie
 
-powers-space-requires : tie.Need-powers-space-requires
-powers-space-requires c κs = search needs
-
-logs-space-requires : tie.Need-logs-space-requires
-logs-space-requires c κs = search needs
-
-slice-aggregate-fill-powers : tie.Need-slice-aggregate-fill-powers
-slice-aggregate-fill-powers c = search needs
-
-fill-powers-requires : tie.Need-fill-powers-requires
-fill-powers-requires c κs = let l = c .before .before .before .before .before .before .pre .0 .listed in (l, powers-room l (c .before .before .powers-space .ensures))
-
-slice-aggregate-fill-logs : tie.Need-slice-aggregate-fill-logs
-slice-aggregate-fill-logs c = search needs
-
-slice-aggregate-fill-logs-2 : tie.Need-slice-aggregate-fill-logs-2
-slice-aggregate-fill-logs-2 c = search needs
-
-fill-logs-requires : tie.Need-fill-logs-requires
-fill-logs-requires c κs = search needs
+tables-requires : tie.Need-tables-requires
+tables-requires c κs = search needs
 
 slice-aggregate-splice-stretch : tie.Need-slice-aggregate-splice-stretch
 slice-aggregate-splice-stretch c = search needs
@@ -43,11 +25,11 @@ slice-aggregate-splice-stretch-4 c = search needs
 
 splice-stretch-requires : tie.Need-splice-stretch-requires
 splice-stretch-requires c κs =
-    let s = c .before .before .before .before .before .before .before .before .before .before .before .before .before .before .before .before in
+    let s = c .before .before .before .before .before .before .before .before .before .before in
     let b : length (s .args .kept .bits) ≡ 1023 = search needs in
     let l : length (s .args .kept .sums) ≡ 255 = search needs in
     let k = sizes (s .pre .0 .listed) in
-    (c .before .before .before .before .before .fill-logs .ensures, s .pre .1, omega (arith, b), omega (arith, l, s .pre .0 .most))
+    (c .before .before .before .before .before .before .tables .ensures, s .pre .1, omega (arith, b), omega (arith, l, s .pre .0 .most))
 
 returns : tie.Need-returns
 returns c = spliced-parts refl refl (c .before .before .splice-stretch .ensures)
@@ -56,13 +38,7 @@ pub spliced-spec : {M : Type 1} → statement M
 spliced-spec =
     tie.close
     (tie.spec
-    powers-space-requires
-    logs-space-requires
-    slice-aggregate-fill-powers
-    fill-powers-requires
-    slice-aggregate-fill-logs
-    slice-aggregate-fill-logs-2
-    fill-logs-requires
+    tables-requires
     slice-aggregate-splice-stretch
     slice-aggregate-splice-stretch-2
     slice-aggregate-splice-stretch-3

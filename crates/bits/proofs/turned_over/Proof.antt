@@ -1,0 +1,69 @@
+-- The front of the room is what was lent to be turned over.
+use borrow.Author.Needs.{needs}
+use mathlib.Core.Path.{_≡_, _∙_, sym, ap, ap₂, subst}
+use mathlib.Core.List.{List, List·Memᴰ, _++_}
+use Prim.Native.Nat.{ℕ, _≤_, _<_}
+use native.Mathlib.Omega.{arith}
+use lib.ListN.{length, take, drop, length-append, length-drop, length-replicate}
+use lib.Seq.{take-at, take-length}
+use Rattle.bits.specs.Bits.{AreBits, flipped}
+use Rattle.bits.proofs.BitLaws.{length-flipped}
+use Rattle.bits.proofs.Turns.{copied-front}
+use borrow.Author.Needs.{needs}
+use Rattle.bits.proofs.turned_over.Statement.{statement}
+use Rattle.bits.proofs.turned_over.Tie as tie
+
+-- the whole list of places is its first so many
+whole : (places : List ℕ) (n : ℕ) → ((p : ℕ) → List·Memᴰ p places → p < n) → (p : ℕ) → List·Memᴰ p (take (length places) places) → p < n
+whole places n h p k = h p (subst (List·Memᴰ p) (take-length places) k)
+
+turned : (word places copy last : List ℕ) → take (length word) copy ≡ word → last ≡ flipped (take (length word) copy) (take (length places) places) → last ≡ flipped word places
+turned word places copy last e p = p ∙ ap₂ flipped e (take-length places)
+
+front : (word places copy last : List ℕ) → length copy ≡ 1024 → length word ≤ 1024 → last ≡ flipped word places
+    → (1024 ≡ length (last ++ drop (length word) copy)) × (take (length word) (last ++ drop (length word) copy) ≡ flipped word places)
+front word places copy last l h e =
+    let n : length last ≡ length word = ap length e ∙ length-flipped word places in (
+      omega (arith, length-append last (drop (length word) copy), length-drop (length word) copy),
+      take-at last (drop (length word) copy) (length word) n ∙ e,
+    )
+
+word-space-requires : tie.Need-word-space-requires
+word-space-requires c κs = search needs
+
+slice-aggregate-copy-at : tie.Need-slice-aggregate-copy-at
+slice-aggregate-copy-at c = search needs
+
+copy-at-requires : tie.Need-copy-at-requires
+copy-at-requires c κs = search needs
+
+array-borrow-prefix-space : tie.Need-array-borrow-prefix-space
+array-borrow-prefix-space c = search needs
+
+slice-aggregate-flip-all : tie.Need-slice-aggregate-flip-all
+slice-aggregate-flip-all c = sym (ap length (copied-front _ (c .before .before .before .before .before .before .before .args .word .now) _ (c .before .before .copy-at .ensures)))
+
+flip-all-requires : tie.Need-flip-all-requires
+flip-all-requires c κs =
+    let p = c .before .before .before .before .before .before .before .pre in
+    let e = copied-front _ (c .before .before .before .before .before .before .before .args .word .now) _ (c .before .before .copy-at .ensures) in
+    (subst AreBits (sym e) (p .0), omega arith, rw e (whole _ _ (p .2)))
+
+returns : tie.Need-returns
+returns c =
+    let p = c .before .before .before .before .before .before .before .before .before .pre in
+    let e = copied-front _ (c .before .before .before .before .before .before .before .before .before .args .word .now) _ (c .before .before .before .before .copy-at .ensures) in
+    let s = ap length (c .before .before .before .before .before .before .word-space .ensures) ∙ length-replicate {A = ℕ} 1024 0 in
+    front _ _ (c .before .before .before .before .copy-at .last .0) _ (c .before .before .before .before .copy-at .kept .0 ∙ s) (p .1) (turned _ _ (c .before .before .before .before .copy-at .last .0) _ e (c .before .flip-all .ensures))
+
+pub turned-over-spec : {M : Type 1} → statement M
+turned-over-spec =
+    tie.close
+    (tie.spec
+    word-space-requires
+    slice-aggregate-copy-at
+    copy-at-requires
+    array-borrow-prefix-space
+    slice-aggregate-flip-all
+    flip-all-requires
+    returns)

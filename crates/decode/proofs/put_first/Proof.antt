@@ -1,0 +1,25 @@
+-- The first so many places are a part of the list.
+use borrow.Author.Needs.{needs}
+use mathlib.Core.Path.{sym}
+use lib.Seq.{length-take-le}
+use Rattle.decode.proofs.put_first.Statement.{statement}
+use Rattle.decode.proofs.put_first.Tie as tie
+
+slice-aggregate-put : tie.Need-slice-aggregate-put
+slice-aggregate-put c = sym (length-take-le (c .before .before .before .before .before .args .count) (c .before .before .before .before .before .args .places .now) (c .before .before .before .before .before .pre .1))
+
+put-requires : tie.Need-put-requires
+put-requires c κs = search needs
+
+same-length : tie.Need-same-length
+same-length c = search needs
+
+same-length-2 : tie.Need-same-length-2
+same-length-2 c = search needs
+
+returns : tie.Need-returns
+returns c = c .before .before .before .before .put .ensures
+
+pub put-first-spec : {M : Type 1} → statement M
+put-first-spec =
+    tie.close (tie.spec slice-aggregate-put put-requires same-length same-length-2 returns)

@@ -1,0 +1,2 @@
+pub mod DecodeKept
+pub mod Work
