@@ -6,3 +6,4 @@ pub mod MessageLaws
 pub mod CodeLaws
 pub mod MakeLaws
 pub mod ReadLaws
+pub mod ReadingLaws

@@ -1,0 +1,3 @@
+pub mod SpelledLaws
+pub mod SplitLaws
+pub mod Written
