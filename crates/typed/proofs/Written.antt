@@ -4,7 +4,7 @@ use mathlib.Core.List.{List, [], _∷_, _++_, append-nil, append-assoc}
 use Prim.Native.Nat.{ℕ, zero, suc, _+_, _-_, _*_, _/_, _%_, _^_, _≤_, _<_}
 use native.Mathlib.Decide.{decLt, decLe}
 use native.Mathlib.Omega.{arith}
-use lib.ListN.{length, take, drop, length-append, take-append-drop, drop-of-length-le}
+use lib.ListN.{length, take, length-append, take-append-drop, drop-of-length-le}
 use lib.Seq.{length-take-le}
 use Rattle.frame.specs.declared.places.Reading.{Reading}
 use Rattle.frame.specs.Frame.{Lawful}
@@ -13,7 +13,7 @@ use Rattle.line.specs.Line.{decimal, space}
 use Rattle.line.proofs.LineLaws.{decimal-small, decimal-more, decimal-fits}
 use Rattle.typed.specs.declared.Typed.{Typed}
 use Rattle.typed.specs.declared.Typed.the-variants.{Said, Nothing}
-use Rattle.typed.specs.Says.{Digits, valueFrom, Number, NumberThen, SaysPoll, SaysCounter, Says, Answers}
+use Rattle.typed.specs.Says.{Digits, valueFrom, Number, SaysPoll, SaysCounter, Says, Answers}
 use Rattle.typed.proofs.SpelledLaws.{value-nil, value-cons, value-last, digits-last}
 use Rattle.typed.proofs.SplitLaws.{same-parts}
 

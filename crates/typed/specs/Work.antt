@@ -1,7 +1,7 @@
 -- What the steps of reading a typed line hand to each other; no promise of an operation speaks of it.
 use mathlib.Core.Path.{_≡_}
 use mathlib.Core.List.{List, [], _∷_}
-use Prim.Native.Nat.{ℕ, _+_, _-_, _*_, _^_, _≤_, _<_}
+use Prim.Native.Nat.{ℕ, _+_, _-_, _*_, _≤_, _<_}
 use lib.ListN.{length, getD, take, drop}
 use Rattle.frame.specs.declared.places.Reading.{Reading}
 use Rattle.typed.specs.declared.Typed.{Typed}

@@ -1,6 +1,6 @@
 // A typed line, `house poll counter`, read into a reading.
 
-ghost use Prim.Native.Nat.{_+_, _≤_, _^_};
+ghost use Prim.Native.Nat.{_+_, _≤_};
 ghost use Rattle.typed.specs.Says.{Answers};
 ghost use Rattle.typed.specs.Work.{BlankAt, AnswersPoll, AnswersCounter, AnswersNumber, AnswersSpelled, AnswersDigit};
 use frame::Reading;
