@@ -8,6 +8,7 @@ pub mod frames;
 pub mod keeping;
 pub mod kept;
 pub mod made_up;
+pub mod making;
 pub mod mending;
 pub mod nearest;
 pub mod night;

@@ -1,7 +1,7 @@
 //! Writes what one of the proved programs is to print, or the bytes that it is to read.
 
 use second::frames::Link;
-use second::{keeping, mending, night, trials};
+use second::{keeping, making, mending, night, trials};
 use std::io::{Read, Write};
 
 fn main() {
@@ -11,15 +11,23 @@ fn main() {
         "mending" => mending::text().into_bytes(),
         "trials" => trials::text().into_bytes(),
         "night" => night::frames(),
+        "making" => frames_of_lines(),
         "listing" => Link::new().listing(&standard_input()).into_bytes(),
         _ => {
-            eprintln!("usage: second keeping|mending|trials|night, or second listing < FRAMES");
+            eprintln!("usage: second keeping|mending|trials|night, second listing < FRAMES, or second making < LINES");
             std::process::exit(2);
         }
     };
     std::io::stdout()
         .write_all(&bytes)
         .expect("standard output takes the text");
+}
+
+/// The frames of typed lines; the lines that are refused are named on standard error.
+fn frames_of_lines() -> Vec<u8> {
+    let made = making::made(&standard_input());
+    eprint!("{}", made.messages);
+    made.frames
 }
 
 fn standard_input() -> Vec<u8> {
