@@ -27,6 +27,7 @@ use Rattle.frame.proofs.PackLaws.{word-long, word-bits, word-at}
 use Rattle.frame.proofs.MessageLaws.{message-counter, message-poll, message-house, message-lead, message-at}
 use Rattle.frame.proofs.CodeLaws.{listed}
 use Rattle.frame.proofs.ReadLaws.{lead-none, frame-passes}
+use Rattle.frame.proofs.ReadingLaws.{reading-tells}
 use Rattle.demands.proofs.OneOutcome.{encoding-one}
 use Rattle.demands.proofs.Near.{near-one}
 
@@ -76,13 +77,6 @@ make-one {reading} {lent} {left} {left′} {x} {y} p q = (making-tells x y (p .n
     pick (no n) = p .refused n ∙ sym (q .refused n)
 
 -- reading
-
-readingOf : ℕ → ℕ → ℕ → Reading
-readingOf house poll counter = record { house = house; poll = poll; counter = counter }
-
-reading-tells : (x y : Reading) → x .house ≡ y .house → x .poll ≡ y .poll → x .counter ≡ y .counter → x ≡ y
-unfolding readingOf
-reading-tells x y h p c = ap₂ (λ (a b : ℕ). readingOf a b (x .counter)) h p ∙ ap (readingOf (y .house) (y .poll)) c
 
 pub read-tells : (x y : ReadFrame) → readNumber x ≡ readNumber y → readReading x ≡ readReading y → readWrong x ≡ readWrong y → x ≡ y
 read-tells (Read a n) (Read b m) e r w = ap₂ Read r w

@@ -5,6 +5,7 @@ pub mod EditOutcome
 pub mod KeptOutcome
 pub mod Demand3
 pub mod FrameOutcome
+pub mod TypedOutcome
 pub mod NoSet
 pub mod Cases
 pub mod CardOutcome
