@@ -1,29 +1,23 @@
 -- What is kept of a line is its front.
 use mathlib.Core.Path.{_≡_, _∙_, refl, sym, ap}
 use mathlib.Core.List.{List, [], _∷_, _++_}
-use Prim.Native.Nat.{ℕ, zero, suc, _+_, _≤_, _<_}
+use Prim.Native.Nat.{ℕ, zero, suc, _+_, _<_}
 use native.Mathlib.Numerals.{add-one}
 use native.Mathlib.Omega.{arith}
 use lib.ListN.{length, take, set, length-append}
-use lib.Seq.{take-suc-set, take-length, take-append-le, length-take-le}
+use lib.Seq.{take-suc-set, take-all, take-append-le, length-take-le}
 use Rattle.maker.specs.declared.Progress.{Progress}
 use Rattle.maker.specs.Work.{Keeps}
-
-take-more : (l : List ℕ) (n : ℕ) → length l ≤ n → take n l ≡ l
-take-more [] zero h = refl
-take-more [] (suc n) h = refl
-take-more (x ∷ l) zero h = absurd (omega arith)
-take-more (x ∷ l) (suc n) h = ap (λ (r : List ℕ). x ∷ r) (take-more l n (omega arith))
 
 pub kept-one : (line : List ℕ) (held byte : ℕ) → held < length line → take (held + 1) (set line held byte) ≡ take (length line) (take held line ++ (byte ∷ []))
 kept-one line held byte h =
     rw (add-one held) (take-suc-set line held byte h)
-    ∙ sym (take-more (take held line ++ (byte ∷ [])) (length line) (omega (arith, length-append (take held line) (byte ∷ []), length-take-le held line (omega arith))))
+    ∙ sym (take-all (length line) (take held line ++ (byte ∷ [])) (omega (arith, length-append (take held line) (byte ∷ []), length-take-le held line (omega arith))))
 
 pub kept-none : (line : List ℕ) (held byte : ℕ) → held ≡ length line → take held line ≡ take (length line) (take held line ++ (byte ∷ []))
 kept-none line held byte e =
     let l : length (take held line) ≡ length line = length-take-le held line (omega arith) ∙ e in
-    sym (take-append-le (length line) (take held line) (byte ∷ []) (omega arith) ∙ take-more (take held line) (length line) (omega arith))
+    sym (take-append-le (length line) (take held line) (byte ∷ []) (omega arith) ∙ take-all (length line) (take held line) (omega arith))
 
 front-of-front : (n : ℕ) (text : List ℕ) (byte : ℕ) → take n (take n text ++ (byte ∷ [])) ≡ take n (text ++ (byte ∷ []))
 front-of-front zero text byte = refl

@@ -1,11 +1,11 @@
 -- A line says one reading at most; what is written with decimal numbers is read as it was.
 use mathlib.Core.Path.{_≡_, _∙_, sym, ap, subst}
-use mathlib.Core.List.{List, [], _∷_, _++_, append-nil, append-assoc}
+use mathlib.Core.List.{List, [], _∷_, _++_, append-assoc}
 use Prim.Native.Nat.{ℕ, zero, suc, _+_, _-_, _*_, _/_, _%_, _^_, _≤_, _<_}
 use native.Mathlib.Decide.{decLt, decLe}
 use native.Mathlib.Omega.{arith}
-use lib.ListN.{length, take, length-append, take-append-drop, drop-of-length-le}
-use lib.Seq.{length-take-le}
+use lib.ListN.{length, take, length-append}
+use lib.Seq.{length-take-le, take-all}
 use Rattle.frame.specs.declared.places.Reading.{Reading}
 use Rattle.frame.specs.Frame.{Lawful}
 use Rattle.frame.proofs.ReadingLaws.{reading-tells}
@@ -106,8 +106,6 @@ pub front-answers : (line : List ℕ) (answer : Typed) → Answers (take 63 line
 front-answers line answer a = pick (decLe (length line) 63) answer a
   where
     pick : Dec (length line ≤ 63) → (x : Typed) → Answers (take 63 line) x → Answers line x
-    pick (yes h) x b =
-        let e : take 63 line ≡ line = sym (append-nil (take 63 line)) ∙ ap (λ (r : List ℕ). take 63 line ++ r) (sym (drop-of-length-le line h)) ∙ take-append-drop 63 line in
-        subst (λ (l : List ℕ). Answers l x) e b
+    pick (yes h) x b = subst (λ (l : List ℕ). Answers l x) (take-all 63 line h) b
     pick (no h) (Said reading) b = absurd (omega (arith, says-short (take 63 line) reading b, length-take-le 63 line (omega arith)))
     pick (no h) Nothing b = λ reading p. omega (arith, says-short line reading p)
