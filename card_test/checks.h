@@ -1,0 +1,14 @@
+/* The parts of the test, and how they report a call. */
+#ifndef CHECKS_H
+#define CHECKS_H
+
+#include <stddef.h>
+
+/* Counts a call; where it differs, says which row of which operation. */
+void report(const char *operation, size_t row, int is_as_expected);
+
+void check_whole_words(void);
+void check_kept_records(void);
+void check_frames(void);
+
+#endif

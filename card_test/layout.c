@@ -1,0 +1,32 @@
+/* The header's structs are laid out as the library's are, on x86-64. */
+#include "blentovar.h"
+
+#include <assert.h>
+
+static_assert(sizeof(size_t) == 8, "places and lengths are 64-bit");
+
+static_assert(offsetof(blentovar_describe_answer, number) == 0, "number");
+static_assert(offsetof(blentovar_describe_answer, n) == 8, "n");
+static_assert(offsetof(blentovar_describe_answer, k) == 16, "k");
+static_assert(sizeof(blentovar_describe_answer) == 24, "describe_answer");
+
+static_assert(offsetof(blentovar_decode_answer, number) == 0, "number");
+static_assert(offsetof(blentovar_decode_answer, wrong) == 8, "wrong");
+static_assert(sizeof(blentovar_decode_answer) == 16, "decode_answer");
+
+static_assert(offsetof(blentovar_kept, m) == 0, "m");
+static_assert(offsetof(blentovar_kept, t) == 8, "t");
+static_assert(offsetof(blentovar_kept, bits) == 16, "bits");
+static_assert(offsetof(blentovar_kept, sums) == 1040, "sums");
+static_assert(sizeof(blentovar_kept) == 1552, "kept");
+
+static_assert(offsetof(blentovar_kept_answer, number) == 0, "number");
+static_assert(offsetof(blentovar_kept_answer, record) == 8, "record");
+static_assert(sizeof(blentovar_kept_answer) == 1560, "kept_answer");
+
+static_assert(offsetof(blentovar_read_answer, number) == 0, "number");
+static_assert(offsetof(blentovar_read_answer, house) == 4, "house");
+static_assert(offsetof(blentovar_read_answer, poll) == 6, "poll");
+static_assert(offsetof(blentovar_read_answer, counter) == 8, "counter");
+static_assert(offsetof(blentovar_read_answer, wrong) == 16, "wrong");
+static_assert(sizeof(blentovar_read_answer) == 24, "read_answer");

@@ -1,0 +1,182 @@
+/* The operations of Blentovar for C and C++: link target/staticlib/libcard.a.
+ *
+ * Bits are lent one to a byte, 0 or 1, except in frames. Place i of a word is
+ * the coefficient of x^i. The code of (m, t) has n = 2^m - 1 places, k of them
+ * for the message; t is the most wrong places that are mended.
+ *
+ * A buffer is lent as a pointer and its length, counted in elements. Lengths
+ * are exact: longer is refused as shorter is. A null pointer is lawful only
+ * with length 0. Buffers lent to one call must not overlap. What an output
+ * buffer held before is never looked at.
+ *
+ * Every function answers a number of the sheet below, BLENTOVAR_DONE or the
+ * first check of its order that refuses. After a refusal no lent buffer has
+ * changed, and every number beside the refusal is 0. Nothing is kept between
+ * calls, nothing is allocated, and there is no state: calls may run at the
+ * same time.
+ */
+#ifndef BLENTOVAR_H
+#define BLENTOVAR_H
+
+#include <stddef.h>
+#include <stdint.h>
+
+#ifdef __cplusplus
+extern "C" {
+#endif
+
+/* The sheet. */
+enum {
+    BLENTOVAR_DONE = 0,
+    /* m is not 3 to 10 */
+    BLENTOVAR_FIELD_SIZE = 1,
+    /* t is not listed for m */
+    BLENTOVAR_NOT_LISTED = 2,
+    /* the message is not k long; a received or edited word is not n long */
+    BLENTOVAR_INPUT_LENGTH = 3,
+    /* an output buffer has the wrong length */
+    BLENTOVAR_OUTPUT_LENGTH = 4,
+    /* a bit of a lent message, word or stretch is above 1 */
+    BLENTOVAR_BIT_ABOVE_ONE = 5,
+    /* no code word within t; for a kept record, no set of places with its sums */
+    BLENTOVAR_NOTHING_NEAR = 6,
+    /* in a kept record one of the first n bits is above 1 or one of the first
+     * t sums is 2^m or more */
+    BLENTOVAR_RECORD_CONTENTS = 7,
+    /* the mended word fails a second check of its sums; proved never to come */
+    BLENTOVAR_SECOND_CHECK = 8,
+    /* a frame is not 32 bytes */
+    BLENTOVAR_FRAME_LENGTH = 9,
+    /* a frame's last bit is 1 */
+    BLENTOVAR_PAD_BIT = 10,
+    /* a decoded frame's lead bits are wrong */
+    BLENTOVAR_LEAD_BITS = 11,
+    /* a stretch runs past the end: k for edit, n for splice */
+    BLENTOVAR_STRETCH_END = 12
+};
+
+/* The sizes: bits and sums of a kept record, which are also the largest n and
+ * the largest t; bytes of a frame. */
+enum {
+    BLENTOVAR_BITS = 1023,
+    BLENTOVAR_SUMS = 255,
+    BLENTOVAR_FRAME_BYTES = 32
+};
+
+typedef struct blentovar_describe_answer {
+    uint32_t number;
+    size_t n;
+    size_t k;
+} blentovar_describe_answer;
+
+typedef struct blentovar_decode_answer {
+    uint32_t number;
+    size_t wrong;
+} blentovar_decode_answer;
+
+/* A received word with its odd sums S_1, S_3, .. S_(2t-1). It is a plain value
+ * and may be built by hand: what stands past n bits and t sums is neither
+ * looked at nor changed. */
+typedef struct blentovar_kept {
+    size_t m;
+    size_t t;
+    uint8_t bits[BLENTOVAR_BITS];
+    uint16_t sums[BLENTOVAR_SUMS];
+} blentovar_kept;
+
+typedef struct blentovar_kept_answer {
+    uint32_t number;
+    blentovar_kept record;
+} blentovar_kept_answer;
+
+typedef struct blentovar_read_answer {
+    uint32_t number;
+    uint16_t house;
+    uint16_t poll;
+    uint64_t counter;
+    size_t wrong;
+} blentovar_read_answer;
+
+/* The code of (m, t).
+ * generator: n - k + 1 places, written; place i is its coefficient of x^i.
+ * Checks: 1, 2, 4.
+ * Answers the number, n and k; refused, n and k are 0 and generator is as lent. */
+blentovar_describe_answer blentovar_describe(size_t m, size_t t,
+                                             uint8_t *generator, size_t generator_places);
+
+/* The code word that carries a message.
+ * message: k places, read. word: n places, written; parity in places 0 to
+ * n-k-1, message place i in place n-k+i.
+ * Checks: 1, 2, 3, 4, 5.
+ * Answers the number; refused, word is as lent. */
+uint32_t blentovar_encode(size_t m, size_t t,
+                          const uint8_t *message, size_t message_places,
+                          uint8_t *word, size_t word_places);
+
+/* The code word within t of what was received.
+ * received: n places, read. word: n places, written. list: t places, written;
+ * the wrong places ascending, then zeros.
+ * Checks: 1, 2, 3, 4 (word, then list), 5, 6, 8.
+ * Answers the number and how many places were wrong, which tells how much of
+ * list are places; refused, wrong is 0 and word and list are as lent. */
+blentovar_decode_answer blentovar_decode(size_t m, size_t t,
+                                         const uint8_t *received, size_t received_places,
+                                         uint8_t *word, size_t word_places,
+                                         uint16_t *list, size_t list_places);
+
+/* Replaces message places of a word, from message place start on.
+ * word: n places, read and written; it may be no code word: what changes is
+ * the code word that carries the change of the message. stretch: any length,
+ * read; it ends at message place k or before, and may be empty.
+ * Checks: 1, 2, 3, 12, 5 (word, then stretch).
+ * Answers the number; refused, word is as lent. */
+uint32_t blentovar_edit(size_t m, size_t t,
+                        uint8_t *word, size_t word_places,
+                        size_t start,
+                        const uint8_t *stretch, size_t stretch_places);
+
+/* A record of a received word.
+ * word: n places, read.
+ * Checks: 1, 2, 3, 5.
+ * Answers the number and the record, zeros past n bits and past t sums;
+ * refused, the record is all zeros, m and t too. */
+blentovar_kept_answer blentovar_open(size_t m, size_t t,
+                                     const uint8_t *word, size_t word_places);
+
+/* Replaces places of a kept word, from place start on, and adds the sums of
+ * the places that changed to the first t stored ones.
+ * stretch: any length, read; it ends at place n or before, and may be empty.
+ * Checks: 1, 2, 7, 12, 5.
+ * Answers the number and the record; refused, it is the record that came in. */
+blentovar_kept_answer blentovar_splice(blentovar_kept kept, size_t start,
+                                       const uint8_t *stretch, size_t stretch_places);
+
+/* Mends a kept word by its stored sums, which are believed as they are.
+ * word: n places, written. list: t places, written; the wrong places
+ * ascending, then zeros.
+ * Checks: 1, 2, 7, 4 (word, then list), 6.
+ * Answers the number and how many places were wrong; refused, wrong is 0 and
+ * word and list are as lent. */
+blentovar_decode_answer blentovar_decode_kept(blentovar_kept kept,
+                                              uint8_t *word, size_t word_places,
+                                              uint16_t *list, size_t list_places);
+
+/* The frame of a reading; every value of the three fields is lawful.
+ * frame: 32 bytes, written.
+ * Checks: 9.
+ * Answers the number; refused, frame is as lent. */
+uint32_t blentovar_make_frame(uint16_t house, uint16_t poll, uint64_t counter,
+                              uint8_t *frame, size_t frame_bytes);
+
+/* The reading of a frame.
+ * frame: 32 bytes, read.
+ * Checks: 9, 10, 6, 11.
+ * Answers the number, the reading and how many places were wrong; refused,
+ * house, poll, counter and wrong are 0. */
+blentovar_read_answer blentovar_read_frame(const uint8_t *frame, size_t frame_bytes);
+
+#ifdef __cplusplus
+}
+#endif
+
+#endif
