@@ -1,0 +1,67 @@
+//! The kept record: Open, Splice, Decode kept.
+
+use crate::library;
+use crate::refusal::Refusal;
+
+/// The bits of a record, which is also the largest n.
+pub const BITS: usize = 1023;
+
+/// The sums of a record, which is also the largest t.
+pub const SUMS: usize = 255;
+
+/// A received word with its odd sums S_1, S_3, .. S_(2t-1). It may be built by hand: what stands past n bits and t sums is neither looked at nor changed.
+#[repr(C)]
+#[derive(Clone, Debug, PartialEq, Eq)]
+pub struct Kept {
+    pub m: usize,
+    pub t: usize,
+    pub bits: [u8; BITS],
+    pub sums: [u16; SUMS],
+}
+
+impl Kept {
+    /// A record of n received bits, with zeros past them and past the t sums. Checks: 1, 2, 3, 5.
+    ///
+    /// ```
+    /// let kept = blentovar::Kept::open(4, 3, &[1, 1, 1, 1, 0, 0, 0, 0, 0, 0, 0, 0, 0, 0, 0])?;
+    /// assert_eq!(kept.sums[..3], [15, 15, 1]);
+    /// # Ok::<(), blentovar::Refusal>(())
+    /// ```
+    pub fn open(m: usize, t: usize, word: &[u8]) -> Result<Kept, Refusal> {
+        let answer = library::open(m, t, word);
+        Refusal::check(answer.number).map(|()| answer.record)
+    }
+
+    /// Replaces places from `start` on and adds the sums of those that changed to the stored ones. Refused, the record is as it was. Checks: 1, 2, 7, 12, 5.
+    ///
+    /// ```
+    /// use blentovar::{Kept, Refusal};
+    /// let mut kept = Kept::open(4, 3, &[0; 15])?;
+    /// kept.splice(0, &[1, 1, 1, 0, 1])?;
+    /// assert_eq!(kept.sums[..3], [4, 10, 6]);
+    /// assert_eq!(kept.splice(15, &[1]), Err(Refusal::StretchEnd));
+    /// # Ok::<(), Refusal>(())
+    /// ```
+    pub fn splice(&mut self, start: usize, stretch: &[u8]) -> Result<(), Refusal> {
+        let answer = library::splice(self.clone(), start, stretch);
+        // A refused splice gives back the record that it got.
+        *self = answer.record;
+        Refusal::check(answer.number)
+    }
+
+    /// Mends the stored bits by the stored sums, into buffers like those of [`decode`](crate::decode). Checks: 1, 2, 7, 4 (word, then list), 6.
+    ///
+    /// ```
+    /// use blentovar::{Kept, BITS, SUMS};
+    /// let mut by_hand = Kept { m: 4, t: 2, bits: [0; BITS], sums: [0; SUMS] };
+    /// by_hand.sums[..2].copy_from_slice(&[8, 10]);
+    /// let (mut word, mut list) = ([0; 15], [0; 2]);
+    /// assert_eq!(by_hand.decode(&mut word, &mut list)?, 1);
+    /// assert_eq!((word[3], list), (1, [3, 0]));
+    /// # Ok::<(), blentovar::Refusal>(())
+    /// ```
+    pub fn decode(&self, word: &mut [u8], list: &mut [u16]) -> Result<usize, Refusal> {
+        let answer = library::decode_kept(self.clone(), word, list);
+        Refusal::check(answer.number).map(|()| answer.wrong)
+    }
+}

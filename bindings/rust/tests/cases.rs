@@ -1,0 +1,146 @@
+//! The cases worked out by hand. Sets are places that hold 1.
+
+use blentovar::{
+    decode, describe, edit, encode, frame_of, read_frame, Code, Kept, Reading, Received, Refusal,
+};
+
+const THIRD_WORD: [usize; 8] = [0, 1, 2, 6, 9, 10, 12, 14];
+
+fn bits(length: usize, ones: &[usize]) -> Vec<u8> {
+    (0..length).map(|i| u8::from(ones.contains(&i))).collect()
+}
+
+fn encoded(t: usize, k: usize, message: &[usize]) -> Vec<u8> {
+    let mut word = vec![7; 15];
+    encode(4, t, &bits(k, message), &mut word).expect("the message is taken");
+    word
+}
+
+/// The mended word and its list, whole.
+fn decoded(m: usize, t: usize, received: &[u8]) -> Result<(Vec<u8>, Vec<u16>, usize), Refusal> {
+    let (mut word, mut list) = (vec![7; received.len()], vec![7; t]);
+    let wrong = decode(m, t, received, &mut word, &mut list)?;
+    Ok((word, list, wrong))
+}
+
+#[test]
+fn messages_encoded() {
+    assert_eq!(encoded(1, 11, &[0]), bits(15, &[0, 1, 4]));
+    assert_eq!(encoded(2, 7, &[0]), bits(15, &[0, 4, 6, 7, 8]));
+    assert_eq!(encoded(3, 5, &[0, 2, 4]), bits(15, &THIRD_WORD));
+    assert_eq!(encoded(3, 5, &[0, 1, 2, 3, 4]), vec![1; 15]);
+}
+
+#[test]
+fn words_mended() {
+    let mut damaged = bits(15, &THIRD_WORD);
+    [0, 9, 14].iter().for_each(|place| damaged[*place] ^= 1);
+    let third = (bits(15, &THIRD_WORD), vec![0, 9, 14], 3);
+    assert_eq!(decoded(4, 3, &damaged), Ok(third));
+    let generator = (bits(15, &[0, 1, 2, 4, 5, 8, 10]), vec![5, 8, 10], 3);
+    assert_eq!(decoded(4, 3, &bits(15, &[0, 1, 2, 4])), Ok(generator));
+    let fourth = (bits(15, &[0, 1, 4]), vec![4], 1);
+    assert_eq!(decoded(4, 1, &bits(15, &[0, 1])), Ok(fourth));
+    let shortest = (bits(7, &[0, 1, 3]), vec![3], 1);
+    assert_eq!(decoded(3, 1, &bits(7, &[0, 1])), Ok(shortest));
+    let second = (bits(15, &[0, 4, 6, 7, 8]), vec![7, 8], 2);
+    assert_eq!(decoded(4, 2, &bits(15, &[0, 4, 6])), Ok(second));
+}
+
+#[test]
+fn nothing_near() {
+    let received = bits(15, &[0, 1, 2, 3]);
+    assert_eq!(decoded(4, 3, &received), Err(Refusal::NothingNear));
+}
+
+#[test]
+fn sums_of_opened_words() {
+    let far = Kept::open(4, 3, &bits(15, &[0, 1, 2, 3])).expect("the word is taken");
+    assert_eq!(far.sums[..3], [15, 15, 1]);
+    let third_place = Kept::open(4, 2, &bits(15, &[3])).expect("the word is taken");
+    assert_eq!(third_place.sums[..2], [8, 10]);
+    assert!(third_place.sums[2..].iter().all(|sum| *sum == 0));
+}
+
+#[test]
+fn splices_into_an_opened_word() {
+    let mut kept = Kept::open(4, 3, &[0; 15]).expect("the word is taken");
+    kept.splice(0, &[1, 1, 1, 1]).expect("it ends in time");
+    let (mut word, mut list) = ([7; 15], [7; 3]);
+    let refused = kept.decode(&mut word, &mut list);
+    assert_eq!(refused, Err(Refusal::NothingNear));
+    assert_eq!((word, list), ([7; 15], [7; 3]));
+    kept.splice(3, &[0]).expect("it ends in time");
+    kept.splice(4, &[1]).expect("it ends in time");
+    assert_eq!(kept.decode(&mut word, &mut list), Ok(3));
+    assert_eq!(list, [5, 8, 10]);
+    assert_eq!(word[..], bits(15, &[0, 1, 2, 4, 5, 8, 10]));
+}
+
+#[test]
+fn a_record_built_by_hand() {
+    let mut kept = Kept::open(4, 3, &[0; 15]).expect("the word is taken");
+    kept.sums[..3].copy_from_slice(&[3, 7, 1]);
+    kept.bits[15] = 2;
+    kept.sums[3] = 99;
+    let mut expected = kept.clone();
+    expected.bits[0] = 1;
+    expected.sums[..3].copy_from_slice(&[2, 6, 0]);
+    kept.splice(0, &[1])
+        .expect("what stands past n and t is no fault");
+    assert_eq!(kept, expected);
+}
+
+#[test]
+fn the_zero_word_edited() {
+    let mut word = vec![0; 15];
+    edit(4, 3, &mut word, 0, &[1, 0, 1, 0, 1]).expect("it ends in time");
+    assert_eq!(word, bits(15, &THIRD_WORD));
+    edit(4, 3, &mut word, 5, &[]).expect("an empty stretch may start at the end");
+    let past = Err(Refusal::StretchEnd);
+    assert_eq!(edit(4, 3, &mut word, 5, &[1]), past);
+    assert_eq!(edit(4, 3, &mut word, usize::MAX, &[1]), past);
+    assert_eq!(edit(4, 3, &mut word, usize::MAX, &[]), past);
+    assert_eq!(word, bits(15, &THIRD_WORD));
+}
+
+#[test]
+fn the_largest_code() {
+    let described = describe(10, 255, &mut [0; 1013]);
+    assert_eq!(described, Ok(Code { n: 1023, k: 11 }));
+}
+
+#[test]
+fn the_frames_of_the_listing() {
+    let zeros = Reading {
+        house: 0,
+        poll: 0,
+        counter: 0,
+    };
+    let read = |wrong| {
+        let reading = zeros;
+        Ok(Received { reading, wrong })
+    };
+    let mut frame = frame_of(zeros);
+    assert_eq!(read_frame(&frame), read(0));
+    frame[5] = 129;
+    assert_eq!(read_frame(&frame), read(2));
+    let mut ones = [255; 32];
+    assert_eq!(read_frame(&ones), Err(Refusal::PadBit));
+    ones[31] = 254;
+    assert_eq!(read_frame(&ones), Err(Refusal::LeadBits));
+    assert_eq!(read_frame(&[0; 5]), Err(Refusal::FrameLength));
+}
+
+#[test]
+fn a_reading_comes_back_through_23_wrong_places() {
+    let reading = Reading {
+        house: 65535,
+        poll: 1,
+        counter: u64::MAX - 5,
+    };
+    let mut frame = frame_of(reading);
+    frame[..23].iter_mut().for_each(|byte| *byte ^= 64);
+    let wrong = 23;
+    assert_eq!(read_frame(&frame), Ok(Received { reading, wrong }));
+}

@@ -1,0 +1,175 @@
+//! Each refusal, and of two faults the one that is checked first. Records and words are of m 4 and t 3 where nothing else is said.
+
+use blentovar::{decode, describe, edit, encode, make_frame, read_frame, Kept, Reading, Refusal};
+
+/// The number of an answer, 0 where nothing is refused.
+fn number<T>(answer: Result<T, Refusal>) -> u32 {
+    answer.map_or_else(Refusal::number, |_| 0)
+}
+
+#[test]
+fn numbers_and_texts_of_the_sheet() {
+    let refusal = describe(2, 1, &mut [0; 4]).expect_err("m is 2");
+    assert_eq!(refusal, Refusal::FieldSize);
+    assert_eq!(refusal.number(), 1);
+    assert_eq!(refusal.to_string(), "m is not 3 to 10");
+}
+
+#[test]
+fn describe_refuses_in_order() {
+    let describing = |m, t, places| {
+        let mut generator = vec![7; places];
+        let answer = number(describe(m, t, &mut generator));
+        assert!(answer == 0 || generator.iter().all(|bit| *bit == 7));
+        answer
+    };
+    assert_eq!(describing(4, 3, 11), 0);
+    assert_eq!(
+        [(2, 1, 4), (11, 1, 12)].map(|(m, t, n)| describing(m, t, n)),
+        [1; 2]
+    );
+    let unlisted = [(4, 0, 1), (4, 4, 15), (7, 8, 57), (10, 256, 1013)];
+    assert_eq!(unlisted.map(|(m, t, n)| describing(m, t, n)), [2; 4]);
+    assert_eq!([0, 10, 12].map(|places| describing(4, 3, places)), [4; 3]);
+    assert_eq!(describing(2, 0, 4), 1);
+    assert_eq!(describing(4, 4, 0), 2);
+}
+
+#[test]
+fn encode_refuses_in_order() {
+    let encoding = |m, t, message: &[u8], places| {
+        let mut word = vec![7; places];
+        let answer = number(encode(m, t, message, &mut word));
+        assert!(answer == 0 || word.iter().all(|bit| *bit == 7));
+        answer
+    };
+    assert_eq!(encoding(4, 3, &[1; 5], 15), 0);
+    assert_eq!(encoding(11, 0, &[1; 5], 15), 1);
+    assert_eq!(encoding(4, 4, &[1; 6], 15), 2);
+    assert_eq!(encoding(4, 3, &[1; 4], 14), 3);
+    assert_eq!(encoding(4, 3, &[], 15), 3);
+    assert_eq!(encoding(4, 3, &[2; 5], 16), 4);
+    assert_eq!(encoding(4, 3, &[1, 1, 1, 1, 2], 15), 5);
+}
+
+#[test]
+fn decode_refuses_in_order() {
+    let decoding = |m, t, received: &[u8], places, list_places| {
+        let (mut word, mut list) = (vec![7; places], vec![7; list_places]);
+        let answer = number(decode(m, t, received, &mut word, &mut list));
+        assert!(answer == 0 || word.iter().all(|bit| *bit == 7));
+        assert!(answer == 0 || list.iter().all(|place| *place == 7));
+        answer
+    };
+    let far = [1, 1, 1, 1, 0, 0, 0, 0, 0, 0, 0, 0, 0, 0, 0];
+    let mut far_and_bad = far;
+    far_and_bad[14] = 2;
+    assert_eq!(decoding(4, 3, &[1; 15], 15, 3), 0);
+    assert_eq!(decoding(2, 0, &[1; 15], 15, 3), 1);
+    assert_eq!(decoding(4, 4, &[1; 14], 15, 4), 2);
+    assert_eq!(decoding(4, 3, &[1; 14], 14, 3), 3);
+    assert_eq!(decoding(4, 3, &far_and_bad, 14, 3), 4);
+    assert_eq!(decoding(4, 3, &far_and_bad, 15, 4), 4);
+    assert_eq!(decoding(4, 3, &far_and_bad, 15, 3), 5);
+    assert_eq!(decoding(4, 3, &far, 15, 3), 6);
+}
+
+#[test]
+fn edit_refuses_in_order() {
+    let editing = |m, t, word: &[u8], start, stretch: &[u8]| {
+        let mut edited = word.to_vec();
+        let answer = number(edit(m, t, &mut edited, start, stretch));
+        assert!(answer == 0 || edited == word);
+        answer
+    };
+    assert_eq!(editing(4, 3, &[0; 15], 4, &[1]), 0);
+    assert_eq!(editing(2, 0, &[0; 15], 0, &[1]), 1);
+    assert_eq!(editing(4, 4, &[0; 14], 0, &[1]), 2);
+    assert_eq!(editing(4, 3, &[0; 14], 5, &[1]), 3);
+    assert_eq!(editing(4, 3, &[2; 15], 5, &[1]), 12);
+    assert_eq!(editing(4, 3, &[0; 15], usize::MAX, &[2, 2]), 12);
+    assert_eq!(editing(4, 3, &[2; 15], 0, &[]), 5);
+    assert_eq!(editing(4, 3, &[0; 15], 0, &[2]), 5);
+}
+
+#[test]
+fn open_refuses_in_order() {
+    let opening = |m, t, word: &[u8]| number(Kept::open(m, t, word));
+    assert_eq!(opening(4, 3, &[1; 15]), 0);
+    assert_eq!(opening(2, 0, &[1; 15]), 1);
+    assert_eq!(opening(4, 4, &[1; 14]), 2);
+    assert_eq!(opening(4, 3, &[2; 16]), 3);
+    assert_eq!(opening(4, 3, &[]), 3);
+    assert_eq!(opening(4, 3, &[2; 15]), 5);
+}
+
+/// A record of ones, whose sums are 0, with a place and a sum changed by hand.
+fn record(m: usize, t: usize, bit: u8, sum: u16) -> Kept {
+    let mut kept = Kept::open(4, 3, &[1; 15]).expect("the word is taken");
+    (kept.m, kept.t) = (m, t);
+    (kept.bits[14], kept.sums[2]) = (bit, sum);
+    kept
+}
+
+#[test]
+fn splice_refuses_in_order_and_leaves_the_record() {
+    let splicing = |kept: Kept, start, stretch: &[u8]| {
+        let mut spliced = kept.clone();
+        let answer = number(spliced.splice(start, stretch));
+        assert!(answer == 0 || spliced == kept);
+        answer
+    };
+    assert_eq!(splicing(record(4, 3, 1, 15), 14, &[0]), 0);
+    assert_eq!(splicing(record(4, 3, 1, 15), 15, &[]), 0);
+    assert_eq!(splicing(record(2, 0, 1, 0), 0, &[1]), 1);
+    assert_eq!(splicing(record(4, 4, 2, 0), 0, &[1]), 2);
+    assert_eq!(splicing(record(4, 3, 2, 0), 15, &[1]), 7);
+    assert_eq!(splicing(record(4, 3, 1, 16), 15, &[1]), 7);
+    assert_eq!(splicing(record(4, 3, 1, 0), 15, &[2]), 12);
+    assert_eq!(splicing(record(4, 3, 1, 0), usize::MAX, &[2, 2]), 12);
+    assert_eq!(splicing(record(4, 3, 1, 0), 16, &[]), 12);
+    assert_eq!(splicing(record(4, 3, 1, 0), 0, &[2]), 5);
+}
+
+#[test]
+fn decode_kept_refuses_in_order() {
+    let decoding = |kept: Kept, places, list_places| {
+        let (mut word, mut list) = (vec![7; places], vec![7; list_places]);
+        let answer = number(kept.decode(&mut word, &mut list));
+        assert!(answer == 0 || word.iter().all(|bit| *bit == 7));
+        assert!(answer == 0 || list.iter().all(|place| *place == 7));
+        answer
+    };
+    let mut far = record(4, 3, 0, 1);
+    far.sums[..2].copy_from_slice(&[15, 15]);
+    assert_eq!(decoding(record(4, 3, 1, 0), 15, 3), 0);
+    assert_eq!(decoding(record(2, 0, 1, 0), 15, 3), 1);
+    assert_eq!(decoding(record(4, 4, 2, 0), 15, 4), 2);
+    assert_eq!(decoding(record(4, 3, 2, 0), 14, 3), 7);
+    assert_eq!(decoding(record(4, 3, 1, 16), 15, 4), 7);
+    assert_eq!(decoding(far.clone(), 14, 3), 4);
+    assert_eq!(decoding(far.clone(), 15, 4), 4);
+    assert_eq!(decoding(far, 15, 3), 6);
+}
+
+#[test]
+fn frames_refuse_in_order() {
+    let reading = Reading {
+        house: 1,
+        poll: 2,
+        counter: 3,
+    };
+    for length in [0, 31, 33] {
+        let mut frame = vec![7; length];
+        assert_eq!(number(make_frame(reading, &mut frame)), 9);
+        assert_eq!(frame, vec![7; length]);
+    }
+    // Near to no code word, as the second program finds too.
+    let mut made_up: Vec<u8> = (1..=32).collect();
+    made_up[0] |= 224;
+    assert_eq!(number(read_frame(&[255; 31])), 9);
+    assert_eq!(number(read_frame(&[])), 9);
+    assert_eq!(number(read_frame(&made_up)), 6);
+    made_up[31] |= 1;
+    assert_eq!(number(read_frame(&made_up)), 10);
+}
