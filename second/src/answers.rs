@@ -1,0 +1,155 @@
+//! Each operation whole, with its refusals: the sheet's number, or what the operation gives.
+
+use crate::codes::Code;
+use crate::euclid::{flipped, Decoder};
+use crate::frames::{Link, Reading, FRAME_BYTES};
+use crate::kept::Kept;
+use crate::{editing, kept, sheet, words};
+use std::collections::BTreeMap;
+
+/// n, k and the generator.
+#[derive(Debug, PartialEq)]
+pub struct Described {
+    pub n: usize,
+    pub k: usize,
+    pub generator: Vec<u8>,
+}
+
+/// The mended word, and the wrong places ascending.
+#[derive(Debug, PartialEq)]
+pub struct Mended {
+    pub word: Vec<u8>,
+    pub places: Vec<usize>,
+}
+
+/// Keeps the generators that were asked for, since finding one takes long in a large field.
+pub struct Answers {
+    generators: BTreeMap<(usize, usize), Vec<u8>>,
+    link: Link,
+}
+
+impl Answers {
+    pub fn new() -> Answers {
+        Answers {
+            generators: BTreeMap::new(),
+            link: Link::new(),
+        }
+    }
+
+    fn generator(&mut self, code: &Code) -> &[u8] {
+        let key = (code.n, code.t);
+        self.generators
+            .entry(key)
+            .or_insert_with(|| code.generator())
+    }
+
+    pub fn describe(&mut self, m: u64, t: u64, places: usize) -> Result<Described, u32> {
+        let code = sheet::describe(m, t, places)?;
+        let generator = self.generator(&code).to_vec();
+        let (n, k) = (code.n, code.k);
+        Ok(Described { n, k, generator })
+    }
+
+    pub fn encode(
+        &mut self,
+        m: u64,
+        t: u64,
+        message: &[u8],
+        places: usize,
+    ) -> Result<Vec<u8>, u32> {
+        let code = sheet::encode(m, t, message, places)?;
+        Ok(words::with_parity(&code, self.generator(&code), message))
+    }
+
+    pub fn decode(
+        &self,
+        m: u64,
+        t: u64,
+        received: &[u8],
+        word_places: usize,
+        list_places: usize,
+    ) -> Result<Mended, u32> {
+        let code = sheet::decode(m, t, received, word_places, list_places)?;
+        let places = Decoder::new(&code).wrong_places(received).ok_or(6u32)?;
+        let word = flipped(received, &places);
+        Ok(Mended { word, places })
+    }
+
+    pub fn edit(
+        &mut self,
+        m: u64,
+        t: u64,
+        word: &[u8],
+        start: u64,
+        stretch: &[u8],
+    ) -> Result<Vec<u8>, u32> {
+        let code = sheet::edit(m, t, word, start, stretch)?;
+        let generator = self.generator(&code);
+        Ok(editing::edit(
+            &code,
+            generator,
+            word,
+            start as usize,
+            stretch,
+        ))
+    }
+
+    pub fn open(&self, m: u64, t: u64, word: &[u8]) -> Result<Kept, u32> {
+        sheet::open(m, t, word).map(|code| kept::open(m, &code, word))
+    }
+
+    pub fn splice(&self, record: &Kept, start: u64, stretch: &[u8]) -> Result<Kept, u32> {
+        let code = sheet::splice(record, start, stretch)?;
+        Ok(kept::splice(&code, record, start as usize, stretch))
+    }
+
+    pub fn decode_kept(
+        &self,
+        record: &Kept,
+        word_places: usize,
+        list_places: usize,
+    ) -> Result<Mended, u32> {
+        let code = sheet::decode_kept(record, word_places, list_places)?;
+        let (word, places) = kept::decode_kept(&code, record).ok_or(6u32)?;
+        Ok(Mended { word, places })
+    }
+
+    pub fn make_frame(&self, reading: Reading, bytes: usize) -> Result<[u8; FRAME_BYTES], u32> {
+        if bytes != FRAME_BYTES {
+            return Err(9);
+        }
+        Ok(self.link.make(reading))
+    }
+
+    pub fn read_frame(&self, frame: &[u8]) -> Result<(Reading, usize), u32> {
+        self.link.read(frame)
+    }
+}
+
+#[cfg(test)]
+mod tests {
+    use super::{Answers, Mended};
+
+    #[test]
+    fn words_and_refusals_checked_by_hand() {
+        let mut answers = Answers::new();
+        let third = vec![1, 1, 1, 0, 0, 0, 1, 0, 0, 1, 1, 0, 1, 0, 1];
+        let message = [1, 0, 1, 0, 1];
+        assert_eq!(answers.encode(4, 3, &message, 15), Ok(third.clone()));
+        assert_eq!(answers.edit(4, 3, &[0; 15], 0, &message), Ok(third.clone()));
+        assert_eq!(answers.edit(4, 3, &third, u64::MAX, &[1]), Err(12));
+        let mended = Mended {
+            word: vec![1, 1, 0, 1, 0, 0, 0],
+            places: vec![3],
+        };
+        let received = [1, 1, 0, 0, 0, 0, 0];
+        assert_eq!(answers.decode(3, 1, &received, 7, 1), Ok(mended));
+        assert_eq!(answers.decode(3, 1, &received, 7, 2), Err(4));
+    }
+
+    #[test]
+    fn the_largest_code_has_11_message_places() {
+        let described = Answers::new().describe(10, 255, 1013);
+        assert_eq!(described.map(|code| (code.n, code.k)), Ok((1023, 11)));
+    }
+}
