@@ -65,6 +65,7 @@ static const struct read_row read_rows[] = {
     {"1 " MADE_UP_BYTES " 32", 6, 0, 0, 0, 0},
     /* two faults */
     {"255*31", 9, 0, 0, 0, 0},
+    {"255*33", 9, 0, 0, 0, 0},
     {"1 " MADE_UP_BYTES " 33", 10, 0, 0, 0, 0},
     {"225 " MADE_UP_BYTES " 32", 6, 0, 0, 0, 0},
 };

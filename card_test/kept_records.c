@@ -16,7 +16,7 @@ struct record_text {
 static const struct record_text empty = {4, 3, "0*15", "0*3"};
 /* {0,1,2,3}, near to no code word. */
 static const struct record_text far = {4, 3, "1*4", "15 15 1"};
-/* {0,1,2,4}: a + a^4 and so on, worked out in the field of 16. */
+/* {0,1,2,4}, three places from a code word; 1 + a + a^2 + a^4 is 4, and so on. */
 static const struct record_text near = {4, 3, "1*3 0 1", "4 10 6"};
 
 static blentovar_kept record_of(const struct record_text *text)

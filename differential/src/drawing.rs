@@ -7,7 +7,7 @@ use crate::records::{DecodeKept, Open, Splice};
 use crate::words::{Decode, Describe, Edit, Encode};
 use second::answers::Answers;
 use second::codes::listed;
-use second::frames::{Reading, FRAME_BYTES};
+use second::frames::{frame_of_word, Reading, FRAME_BYTES};
 use second::kept::{Kept, BITS, SUMS};
 
 /// A check meets a fault in one call of so many.
@@ -159,12 +159,7 @@ impl Drawing {
         let mut word = word.expect("the code of the link is listed");
         let count = self.draw.below(26);
         self.draw.flip(&mut word, count);
-        let mut frame = vec![0; FRAME_BYTES];
-        for (place, bit) in word.iter().enumerate() {
-            let sent = 254 - place;
-            frame[sent / 8] |= bit << (7 - sent % 8);
-        }
-        frame
+        frame_of_word(&word).to_vec()
     }
 
     fn code(&mut self) -> Listed {
@@ -218,7 +213,8 @@ impl Drawing {
     fn spoil(&mut self, bits: &mut [u8]) {
         if !bits.is_empty() && self.draw.one_in(FAULT) {
             let place = self.draw.below(bits.len());
-            bits[place] = 2 + self.draw.below(254) as u8;
+            let any = 2 + self.draw.below(254);
+            bits[place] = self.draw.pick(&[2, any]) as u8;
         }
     }
 
@@ -266,8 +262,9 @@ impl Drawing {
         self.spoil(&mut record.bits[..code.n]);
         if self.draw.one_in(FAULT) {
             let least = code.n + 1;
+            let any = least + self.draw.below(65536 - least);
             let place = self.draw.below(code.t);
-            record.sums[place] = (least + self.draw.below(65536 - least)) as u16;
+            record.sums[place] = self.draw.pick(&[least, any]) as u16;
         }
         let (m, t) = self.field_and_t(code);
         (record.m, record.t) = (m as u64, t as u64);
@@ -283,7 +280,8 @@ impl Drawing {
         }
         if self.draw.one_in(4) {
             let place = self.draw.below(t);
-            record.sums[place] = self.draw.below(n + 1) as u16;
+            let any = self.draw.below(n + 1);
+            record.sums[place] = self.draw.pick(&[n, any]) as u16;
         }
         if self.draw.one_in(4) {
             let bits = self.draw.bytes(BITS - n);

@@ -19,6 +19,16 @@ pub struct Link {
     generator: Vec<u8>,
 }
 
+/// The frame that holds a word of 255 places.
+pub fn frame_of_word(word: &[u8]) -> [u8; FRAME_BYTES] {
+    let mut frame = [0; FRAME_BYTES];
+    for (place, bit) in word.iter().enumerate() {
+        let sent = 254 - place;
+        frame[sent / 8] |= bit << (7 - sent % 8);
+    }
+    frame
+}
+
 impl Link {
     pub fn new() -> Link {
         let code = listed(8, 23).expect("the code of the link is listed");
@@ -31,13 +41,7 @@ impl Link {
             | (u128::from(reading.poll) << 64)
             | u128::from(reading.counter);
         let message: Vec<u8> = (0..self.code.k).map(|i| (fields >> i & 1) as u8).collect();
-        let word = with_parity(&self.code, &self.generator, &message);
-        let mut frame = [0; FRAME_BYTES];
-        for (place, bit) in word.iter().enumerate() {
-            let sent = 254 - place;
-            frame[sent / 8] |= bit << (7 - sent % 8);
-        }
-        frame
+        frame_of_word(&with_parity(&self.code, &self.generator, &message))
     }
 
     /// The reading and the number of wrong places, or the sheet's number.

@@ -62,12 +62,10 @@ impl fmt::Display for Refusal {
         f.write_str(match self {
             FieldSize => "m is not 3 to 10",
             NotListed => "t is not listed for m",
-            InputLength => {
-                "the message is not k long, or a received or edited word is not n long"
-            }
-            OutputLength => "an output buffer has the wrong length",
+            InputLength => "the message is not k long; a received or edited word is not n long",
+            OutputLength => "an output buffer has the wrong length, longer or shorter",
             BitAboveOne => "a bit of a lent message, word or stretch is above 1",
-            NothingNear => "no code word within t, or no set of places with the kept sums",
+            NothingNear => "no code word within t; no set of places with the kept sums",
             RecordContents => {
                 "in a kept record one of the first n bits is above 1 or one of the first t sums is 2^m or more"
             }

@@ -7,12 +7,28 @@ fn number<T>(answer: Result<T, Refusal>) -> u32 {
     answer.map_or_else(Refusal::number, |_| 0)
 }
 
+const SHEET: [Refusal; 12] = [
+    Refusal::FieldSize,
+    Refusal::NotListed,
+    Refusal::InputLength,
+    Refusal::OutputLength,
+    Refusal::BitAboveOne,
+    Refusal::NothingNear,
+    Refusal::RecordContents,
+    Refusal::SecondCheck,
+    Refusal::FrameLength,
+    Refusal::PadBit,
+    Refusal::LeadBits,
+    Refusal::StretchEnd,
+];
+
 #[test]
-fn numbers_and_texts_of_the_sheet() {
-    let refusal = describe(2, 1, &mut [0; 4]).expect_err("m is 2");
-    assert_eq!(refusal, Refusal::FieldSize);
-    assert_eq!(refusal.number(), 1);
-    assert_eq!(refusal.to_string(), "m is not 3 to 10");
+fn numbers_texts_and_names_are_those_of_the_sheet() {
+    let page = include_str!("../../../docs/REFUSALS.md");
+    for refusal in SHEET {
+        let line = format!("| {} | {refusal} | `{refusal:?}` |", refusal.number());
+        assert!(page.lines().any(|other| other == line), "{line}");
+    }
 }
 
 #[test]
