@@ -1,7 +1,7 @@
-//! Writes what one of the proved programs is to print, or the bytes that it is to read.
+//! Writes what one of the proved programs is to print, the bytes that it is to read, or how often noise is taken for a reading.
 
 use second::frames::Link;
-use second::{keeping, making, mending, night, trials};
+use second::{keeping, making, mending, night, noise, trials};
 use std::io::{Read, Write};
 
 fn main() {
@@ -11,10 +11,11 @@ fn main() {
         "mending" => mending::text().into_bytes(),
         "trials" => trials::text().into_bytes(),
         "night" => night::frames(),
+        "noise" => noise::text().into_bytes(),
         "making" => frames_of_lines(),
         "listing" => Link::new().listing(&standard_input()).into_bytes(),
         _ => {
-            eprintln!("usage: second keeping|mending|trials|night, second listing < FRAMES, or second making < LINES");
+            eprintln!("usage: second keeping|mending|trials|night|noise, second listing < FRAMES, or second making < LINES");
             std::process::exit(2);
         }
     };
