@@ -1,160 +1,116 @@
-//! Prints how long a call of each operation takes: the least, the middle and the most of repeated runs, in ns a call.
+//! Prints what the driver measured as tables; with --write, puts them into the pages and draws the chart.
 
-mod card;
+mod chart;
+mod measured;
+mod names;
+mod page;
+mod tables;
 
-use std::time::Instant;
+use measured::Line;
+use names::Names;
+use std::fs;
 
-/// One listed code.
-struct Code {
-    m: usize,
-    t: usize,
-    n: usize,
-    k: usize,
-}
+const SPEED_PAGE: &str = "docs/SPEED.md";
+const STACK_PAGE: &str = "docs/INTEGRATING.md";
+const CHART: &str = "docs/speed.svg";
 
-const CODES: [Code; 4] = [
-    Code { m: 4, t: 3, n: 15, k: 5 },
-    Code { m: 8, t: 23, n: 255, k: 99 },
-    Code { m: 10, t: 57, n: 1023, k: 513 },
-    Code { m: 10, t: 255, n: 1023, k: 11 },
+/// The calls whose functions are told apart: code, call.
+const SHARED_OUT: [(&str, &str); 8] = [
+    ("(255,99,23)", "Encode"),
+    ("(255,99,23)", "Decode, 0 wrong"),
+    ("(255,99,23)", "Decode, t wrong"),
+    ("(1023,513,57)", "Encode"),
+    ("(1023,513,57)", "Decode, 0 wrong"),
+    ("(1023,513,57)", "Decode, t wrong"),
+    ("(255,99,23)", "Read a frame, 0 wrong"),
+    ("(255,99,23)", "Read a frame, t wrong"),
 ];
 
-const RUNS: usize = 15;
-
-/// Each run lasts about this long.
-const RUN_NS: u128 = 20_000_000;
-
-/// A small generator of numbers that look random, the same at each start.
-struct MadeUp(u64);
-
-impl MadeUp {
-    fn next(&mut self) -> u64 {
-        self.0 ^= self.0 << 13;
-        self.0 ^= self.0 >> 7;
-        self.0 ^= self.0 << 17;
-        self.0
-    }
-
-    fn bits(&mut self, count: usize) -> Vec<u8> {
-        (0..count).map(|_| (self.next() >> 40 & 1) as u8).collect()
-    }
-
-    fn flip(&mut self, word: &mut [u8], count: usize) {
-        let mut places: Vec<usize> = (0..word.len()).collect();
-        for i in 0..count {
-            let j = i + self.next() as usize % (places.len() - i);
-            places.swap(i, j);
-            word[places[i]] ^= 1;
-        }
-    }
-}
-
 fn main() {
-    println!("{:<14} {:<22} {:>10} {:>10} {:>10}", "code", "call", "least", "middle", "most");
-    for code in &CODES {
-        describe_and_encode(code);
-        for wrong in wrong_counts(code.t) {
-            decode_with(code, wrong);
+    let words: Vec<String> = std::env::args().skip(1).collect();
+    let (measured, names, writes) = match &words[..] {
+        [measured, names] => (measured, names, false),
+        [measured, names, word] if word == "--write" => (measured, names, true),
+        _ => {
+            eprintln!("usage: bench MEASURED NAMES [--write]");
+            std::process::exit(2);
         }
-        decode_random(code);
-        keep(code);
-    }
-    frames();
-}
-
-/// 0, 1, 5, t and t + 1, each once and ascending.
-fn wrong_counts(t: usize) -> Vec<usize> {
-    let mut counts = vec![0, 1, 5, t, t + 1];
-    counts.sort();
-    counts.dedup();
-    counts
-}
-
-fn describe_and_encode(code: &Code) {
-    let mut generator = vec![0; code.n - code.k + 1];
-    report(code, "Describe", || card::describe(code.m, code.t, &mut generator).number as usize);
-    let message = MadeUp(1).bits(code.k);
-    let mut word = vec![0; code.n];
-    report(code, "Encode", || card::encode(code.m, code.t, &message, &mut word) as usize);
-}
-
-fn decode_with(code: &Code, wrong: usize) {
-    let mut made_up = MadeUp(2 + wrong as u64);
-    let mut sent = vec![0; code.n];
-    let number = card::encode(code.m, code.t, &made_up.bits(code.k), &mut sent);
-    assert_eq!(number, 0, "the code is listed");
-    made_up.flip(&mut sent, wrong.min(code.n));
-    decode_of(code, &format!("Decode, {wrong} wrong"), &sent);
-}
-
-fn decode_random(code: &Code) {
-    decode_of(code, "Decode, random bits", &MadeUp(9).bits(code.n));
-}
-
-fn decode_of(code: &Code, name: &str, received: &[u8]) {
-    let mut word = vec![0; code.n];
-    let mut list = vec![0; code.t];
-    report(code, name, || card::decode(code.m, code.t, received, &mut word, &mut list).wrong);
-}
-
-/// Edit, Open, splices of several lengths that change every place, and Decode kept with t wrong places.
-fn keep(code: &Code) {
-    let mut made_up = MadeUp(7);
-    let mut word = vec![0; code.n];
-    let number = card::encode(code.m, code.t, &made_up.bits(code.k), &mut word);
-    assert_eq!(number, 0, "the code is listed");
-    let one = [1u8];
-    let mut edited = word.clone();
-    report(code, "Edit of 1 place", || card::edit(code.m, code.t, &mut edited, 0, &one) as usize);
-    made_up.flip(&mut word, code.t);
-    report(code, "Open", || card::open(code.m, code.t, &word).number as usize);
-    let opened = card::open(code.m, code.t, &word);
-    assert_eq!(opened.number, 0, "the word is taken");
-    for places in [1, 8, 64, 255] {
-        if places <= code.n {
-            let stretch: Vec<u8> = word[..places].iter().map(|bit| bit ^ 1).collect();
-            let name = format!("Splice of {places}");
-            report(code, &name, || card::splice(opened.record, 0, &stretch).number as usize);
+    };
+    let lines = measured::parse(&read(measured));
+    let names = Names::parse(&read(names));
+    for (page, name, block) in blocks(&lines, &names) {
+        println!("{name}\n\n{block}");
+        if writes {
+            let changed = page::with_block(&read(page), name, &block);
+            write(page, &changed.expect("the page has the block"));
         }
     }
-    let mut mended = vec![0; code.n];
-    let mut list = vec![0; code.t];
-    let name = format!("Decode kept, {} wrong", code.t);
-    report(code, &name, || card::decode_kept(opened.record, &mut mended, &mut list).wrong);
-}
-
-/// Making a frame, and reading it clean and with 5 wrong places.
-fn frames() {
-    let code = &CODES[1];
-    let mut frame = vec![0; 32];
-    report(code, "make a frame", || card::make_frame(1234, 56, 789_000_000_000, &mut frame) as usize);
-    report(code, "read a frame, 0 wrong", || card::read_frame(&frame).wrong);
-    for byte in frame.iter_mut().take(5) {
-        *byte ^= 16;
+    if writes {
+        write(CHART, &chart_of(&lines));
     }
-    report(code, "read a frame, 5 wrong", || card::read_frame(&frame).wrong);
 }
 
-/// Times a call over several runs and prints a line.
-fn report(code: &Code, name: &str, mut call: impl FnMut() -> usize) {
-    let calls = calls_for(&mut call);
-    let mut taken: Vec<u128> = (0..RUNS).map(|_| run(calls, &mut call)).collect();
-    taken.sort();
-    let label = format!("({},{},{})", code.n, code.k, code.t);
-    println!("{label:<14} {name:<22} {:>10} {:>10} {:>10}", taken[0], taken[RUNS / 2], taken[RUNS - 1]);
-}
-
-/// How many calls make up a run.
-fn calls_for(call: &mut impl FnMut() -> usize) -> usize {
-    let one = run(10, call).max(1);
-    (RUN_NS / one).max(1) as usize
-}
-
-/// ns a call, over so many calls.
-fn run(calls: usize, call: &mut impl FnMut() -> usize) -> u128 {
-    let start = Instant::now();
-    for _ in 0..calls {
-        std::hint::black_box(call());
+/// The page, the name and the text of each block that could be measured.
+fn blocks(lines: &[Line], names: &Names) -> Vec<(&'static str, &'static str, String)> {
+    let mut blocks = Vec::new();
+    let times = of(lines, "ns");
+    if !times.is_empty() {
+        let text = format!("{}\n\n{}", processor(), tables::spread(&times));
+        blocks.push((SPEED_PAGE, "times", text));
     }
-    start.elapsed().as_nanos() / calls as u128
+    let instructions = of(lines, "instructions");
+    blocks.push((SPEED_PAGE, "instructions", tables::spread(&instructions)));
+    let is_of = |line: &Line, (code, call): &(&str, &str)| line.code == *code && line.call == *call;
+    let find = |case| instructions.iter().copied().find(|line| is_of(line, case));
+    let cases: Vec<&Line> = SHARED_OUT.iter().filter_map(find).collect();
+    blocks.push((SPEED_PAGE, "shares", tables::shares(&cases, names)));
+    blocks.push((STACK_PAGE, "stack", tables::greatest(&of(lines, "stack"))));
+    blocks
+}
+
+fn of<'a>(lines: &'a [Line], measure: &str) -> Vec<&'a Line> {
+    lines
+        .iter()
+        .filter(|line| line.measure == measure)
+        .collect()
+}
+
+/// Times where there are any, else instructions.
+fn chart_of(lines: &[Line]) -> String {
+    let times = of(lines, "ns");
+    if times.is_empty() {
+        let subtitle =
+            "x86-64 instructions a call, the middle of up to three made-up words; logarithmic axis";
+        return chart::svg(
+            &of(lines, "instructions"),
+            "Instructions of each call",
+            subtitle,
+        );
+    }
+    let subtitle = format!(
+        "ns a call, the middle of 15 runs; logarithmic axis; {}",
+        processor()
+    );
+    chart::svg(&times, "Time of each call", &subtitle)
+}
+
+/// The processor's kind and how many cores there are.
+fn processor() -> String {
+    let about = fs::read_to_string("/proc/cpuinfo").unwrap_or_default();
+    let model = about
+        .lines()
+        .find_map(|line| line.strip_prefix("model name")?.split(": ").nth(1));
+    let cores = std::thread::available_parallelism().map_or(1, |count| count.get());
+    format!(
+        "{}, {cores} cores",
+        model.unwrap_or("a processor of unknown kind")
+    )
+}
+
+fn read(path: &str) -> String {
+    fs::read_to_string(path).unwrap_or_else(|error| panic!("{path}: {error}"))
+}
+
+fn write(path: &str, text: &str) {
+    fs::write(path, text).unwrap_or_else(|error| panic!("{path}: {error}"));
 }

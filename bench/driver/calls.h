@@ -1,0 +1,5 @@
+// Each operation as a call on one input.
+#pragma once
+#include "cases.h"
+
+call call_describe, call_encode, call_decode, call_edit, call_open, call_splice, call_decode_kept, call_make_frame, call_read_frame;
