@@ -38,10 +38,10 @@ uint32_t call_decode_kept(const struct measured_case *c, struct input *in) {
 
 uint32_t call_make_frame(const struct measured_case *c, struct input *in) {
     (void)c;
-    return blentovar_make_frame(in->house, in->poll, in->counter, in->frame, FRAME_BYTES);
+    return blentovar_make_frame(in->house, in->poll, in->counter, in->frame, BLENTOVAR_FRAME_BYTES);
 }
 
 uint32_t call_read_frame(const struct measured_case *c, struct input *in) {
     (void)c;
-    return blentovar_read_frame(in->frame, FRAME_BYTES).number;
+    return blentovar_read_frame(in->frame, BLENTOVAR_FRAME_BYTES).number;
 }

@@ -51,7 +51,7 @@ static void fill_frame(const struct measured_case *c, struct input *in) {
     in->house = made_up();
     in->poll = made_up();
     in->counter = made_up() << 32 ^ made_up();
-    expect_taken(blentovar_make_frame(in->house, in->poll, in->counter, in->frame, FRAME_BYTES), "making a frame");
+    expect_taken(blentovar_make_frame(in->house, in->poll, in->counter, in->frame, BLENTOVAR_FRAME_BYTES), "making a frame");
     uint8_t wrong[255] = {0};
     flip(wrong, 255, c->wrong);
     for (size_t sent = 0; sent < 255; sent++) in->frame[sent / 8] ^= wrong[sent] << (7 - sent % 8);
@@ -66,7 +66,7 @@ static void fill_input(const struct measured_case *c, struct input *in) {
         fill_bits(in->received, code->n);
     else
         flip(in->received, code->n, c->wrong);
-    struct kept_answer opened = blentovar_open(code->m, code->t, in->received, code->n);
+    blentovar_kept_answer opened = blentovar_open(code->m, code->t, in->received, code->n);
     expect_taken(opened.number, "opening");
     in->kept = opened.record;
     fill_stretch(c, in);

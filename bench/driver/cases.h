@@ -1,8 +1,8 @@
 // What is measured: the codes, the calls, and the made-up words that each call gets in turn.
 #pragma once
-#include "card.h"
+#include "blentovar.h"
 
-enum { CODES = 4, WORDS = 32, FRAME_BYTES = 32, LONGEST_STRETCH = 64 };
+enum { CODES = 4, WORDS = 32, LONGEST_STRETCH = 64 };
 
 struct code {
     size_t m, t, n, k;
@@ -12,12 +12,12 @@ extern const struct code codes[CODES];
 
 // The word of a call, in every form that a call may want.
 struct input {
-    uint8_t message[1023];
-    uint8_t received[1023];
-    struct kept kept;
+    uint8_t message[BLENTOVAR_BITS];
+    uint8_t received[BLENTOVAR_BITS];
+    blentovar_kept kept;
     size_t start;
     uint8_t stretch[LONGEST_STRETCH];
-    uint8_t frame[FRAME_BYTES];
+    uint8_t frame[BLENTOVAR_FRAME_BYTES];
     uint16_t house, poll;
     uint64_t counter;
 };

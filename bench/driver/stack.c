@@ -18,7 +18,7 @@ static struct input with_fault(const struct measured_case *c, struct input in) {
     in.message[c->code->k - 1] = 2;
     in.received[c->code->n - 1] = 2;
     in.kept.bits[c->code->n - 1] = 2;
-    in.frame[FRAME_BYTES - 1] |= 1;
+    in.frame[BLENTOVAR_FRAME_BYTES - 1] |= 1;
     return in;
 }
 
