@@ -1,7 +1,7 @@
 //! Writes what one of the proved programs is to print, the bytes that it is to read, or how often noise is taken for a reading.
 
 use second::frames::Link;
-use second::{keeping, making, mending, night, noise, trials};
+use second::{cases, keeping, making, mending, night, noise, trials};
 use std::io::{Read, Write};
 
 fn main() {
@@ -12,10 +12,11 @@ fn main() {
         "trials" => trials::text().into_bytes(),
         "night" => night::frames(),
         "noise" => noise::text().into_bytes(),
+        "cases" => cases::text(&standard_input()).into_bytes(),
         "making" => frames_of_lines(),
         "listing" => Link::new().listing(&standard_input()).into_bytes(),
         _ => {
-            eprintln!("usage: second keeping|mending|trials|night|noise, second listing < FRAMES, or second making < LINES");
+            eprintln!("usage: second keeping|mending|trials|night|noise, second cases < TEXT, second listing < FRAMES, or second making < LINES");
             std::process::exit(2);
         }
     };

@@ -1,109 +1,13 @@
-//! What crates/mending is to write: every word of the two shortest fields decoded, made-up words of every other listed code, then the refusals of Decode.
+//! What crates/mending is to write: every word of the two shortest fields decoded, and made-up words of every other listed code.
 
 use crate::codes::{listed, Code};
 use crate::euclid::{flipped, Decoder};
 use crate::made_up::MadeUp;
 use crate::tally::Tally;
-use crate::{nearest, sheet, words};
+use crate::{nearest, words};
 
 /// Ten words each.
 const ROUNDS: usize = 100;
-
-const LARGEST: u64 = u64::MAX;
-
-/// m, t, the places of the received word, the place that holds something, what it holds, and the places of the lent word and list buffers.
-type Call = (u64, u64, usize, usize, u8, usize, usize);
-
-const CALLS: [Call; 83] = [
-    // accepted
-    (3, 1, 7, 6, 1, 7, 1),
-    (4, 3, 15, 0, 0, 15, 3),
-    (4, 3, 15, 14, 1, 15, 3),
-    (4, 1, 15, 0, 1, 15, 1),
-    (10, 255, 1023, 1022, 1, 1023, 255),
-    // one fault
-    (0, 1, 0, 0, 0, 0, 1),
-    (2, 1, 3, 0, 1, 3, 1),
-    (11, 1, 2047, 0, 1, 2047, 1),
-    (260, 3, 15, 0, 1, 15, 3),
-    (LARGEST, 3, 15, 0, 1, 15, 3),
-    (4, 0, 15, 0, 1, 15, 0),
-    (4, 4, 15, 0, 1, 15, 4),
-    (4, 259, 15, 0, 1, 15, 259),
-    (4, LARGEST, 15, 0, 1, 15, 3),
-    (7, 8, 127, 0, 1, 127, 8),
-    (10, 256, 1023, 0, 1, 1023, 256),
-    (4, 3, 0, 0, 1, 15, 3),
-    (4, 3, 14, 0, 1, 15, 3),
-    (4, 3, 16, 0, 1, 15, 3),
-    (4, 3, 271, 0, 1, 15, 3),
-    (4, 3, 1024, 0, 1, 15, 3),
-    (10, 255, 1022, 0, 1, 1023, 255),
-    (10, 255, 1024, 0, 1, 1023, 255),
-    (4, 3, 15, 0, 1, 0, 3),
-    (4, 3, 15, 0, 1, 14, 3),
-    (4, 3, 15, 0, 1, 16, 3),
-    (4, 3, 15, 0, 1, 271, 3),
-    (4, 3, 15, 0, 1, 1024, 3),
-    (10, 255, 1023, 0, 1, 1024, 255),
-    (4, 3, 15, 0, 1, 15, 0),
-    (4, 3, 15, 0, 1, 15, 2),
-    (4, 3, 15, 0, 1, 15, 4),
-    (4, 3, 15, 0, 1, 15, 259),
-    (4, 3, 15, 0, 1, 15, 1024),
-    (10, 255, 1023, 0, 1, 1023, 254),
-    (10, 255, 1023, 0, 1, 1023, 256),
-    (4, 3, 15, 0, 2, 15, 3),
-    (4, 3, 15, 0, 255, 15, 3),
-    (4, 3, 15, 14, 2, 15, 3),
-    (4, 3, 15, 14, 255, 15, 3),
-    (10, 255, 1023, 0, 128, 1023, 255),
-    (10, 255, 1023, 1022, 2, 1023, 255),
-    // two faults
-    (2, 0, 15, 0, 1, 15, 3),
-    (11, 3, 14, 0, 1, 15, 3),
-    (260, 3, 15, 0, 1, 16, 3),
-    (2, 3, 15, 0, 1, 15, 2),
-    (LARGEST, 3, 15, 0, 2, 15, 3),
-    (4, 4, 14, 0, 1, 15, 4),
-    (4, 0, 15, 0, 1, 14, 0),
-    (4, 4, 15, 0, 1, 15, 3),
-    (4, 259, 15, 14, 255, 15, 3),
-    (4, 3, 14, 0, 1, 14, 3),
-    (4, 3, 16, 0, 1, 15, 4),
-    (4, 3, 16, 15, 2, 15, 3),
-    (4, 3, 14, 13, 2, 15, 3),
-    (4, 3, 15, 0, 1, 14, 2),
-    (4, 3, 15, 0, 1, 3, 15),
-    (4, 3, 15, 0, 2, 16, 3),
-    (4, 3, 15, 14, 2, 15, 2),
-    // three faults
-    (2, 0, 14, 0, 1, 15, 3),
-    (2, 0, 15, 0, 1, 14, 3),
-    (11, 0, 15, 0, 1, 15, 2),
-    (11, 4, 15, 0, 2, 15, 3),
-    (2, 3, 14, 0, 1, 14, 3),
-    (2, 3, 16, 0, 1, 15, 2),
-    (11, 3, 16, 15, 2, 15, 3),
-    (260, 3, 15, 0, 1, 14, 2),
-    (LARGEST, 3, 15, 0, 2, 16, 3),
-    (11, 3, 15, 14, 255, 15, 4),
-    (4, 4, 14, 0, 1, 14, 4),
-    (4, 0, 16, 0, 1, 15, 3),
-    (4, 4, 16, 15, 2, 15, 4),
-    (4, 259, 15, 0, 1, 16, 3),
-    (4, 4, 15, 0, 2, 14, 4),
-    (4, 4, 15, 14, 2, 15, 3),
-    (4, 3, 14, 0, 1, 14, 2),
-    (4, 3, 16, 15, 2, 14, 3),
-    (4, 3, 0, 0, 2, 15, 4),
-    (4, 3, 15, 14, 255, 16, 4),
-    // more
-    (4, 3, 1024, 1023, 2, 1024, 1024),
-    (4, 4, 16, 15, 2, 14, 2),
-    (11, 0, 16, 15, 2, 14, 2),
-    (LARGEST, LARGEST, 0, 0, 255, 0, 0),
-];
 
 pub fn text() -> String {
     let mut lines = block_lines(3, 1, 128);
@@ -111,7 +15,6 @@ pub fn text() -> String {
         lines.extend(block_lines(4, t, 256));
     }
     lines.extend(code_lines());
-    lines.extend(CALLS.iter().map(call_line));
     lines.push(String::new());
     lines.join("\n")
 }
@@ -195,19 +98,4 @@ fn with_hidden_flips(decoder: &Decoder, word: &[u8], made_up: &mut MadeUp) -> Ve
     let third = tables.log(tables.power_of_a(i) ^ tables.power_of_a(j));
     let places: Vec<usize> = [i, j].into_iter().chain(third).collect();
     flipped(word, &places)
-}
-
-fn call_line(&(m, t, length, place, held, word_places, list_places): &Call) -> String {
-    let mut received = vec![0; length];
-    if place < length {
-        received[place] = held;
-    }
-    let checked = sheet::decode(m, t, &received, word_places, list_places);
-    let found = checked.and_then(|code| Decoder::new(&code).wrong_places(&received).ok_or(6));
-    let (number, count, after) = match found {
-        Ok(places) => (0, places.len(), "written written"),
-        Err(number) => (number, 0, "kept kept"),
-    };
-    let call = format!("decode {m} {t} {length} {place} {held} {word_places} {list_places}");
-    format!("{call} -> {number} {count} {after}")
 }

@@ -38,11 +38,11 @@ impl Tally {
         self.mix_all(vec![0; t - places.len()]);
     }
 
-    /// Number 6, no wrong places, and both buffers as lent: the word filled with 7, the list with 7777.
+    /// Number 6, no wrong places, and both buffers as lent: the word filled with 170, the list with 43690.
     fn add_refused(&mut self, code: &Code) {
         self.refused += 1;
         self.mix_all([6, 0]);
-        self.mix_all(vec![7; code.n]);
-        self.mix_all(vec![7777; code.t]);
+        self.mix_all(vec![170; code.n]);
+        self.mix_all(vec![43690; code.t]);
     }
 }

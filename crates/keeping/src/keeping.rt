@@ -96,8 +96,8 @@ fn decode_into(record: Kept, word: &mut [u8], list: &mut [u16], tally: Tally) ->
 fn decode(t: usize, n: usize, record: Kept, tally: Tally) -> Tally
     requires { ⌜ (t ≤ 255) × (n ≤ 1023) ⌝ }
 {
-    let mut word = room::word_of_sevens();
-    let mut list = room::list_of_junk();
+    let mut word = room::lent_word();
+    let mut list = room::lent_list();
     decode_into(record, &mut word[..n], &mut list[..t], tally)
 }
 

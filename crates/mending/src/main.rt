@@ -1,11 +1,9 @@
-// Every word of the shortest fields and made-up words of every other listed code decoded, then calls that Decode takes or refuses; the file stdout is what the second program prints.
+// Every word of the shortest fields and made-up words of every other listed code decoded; the file stdout is what the second program prints.
 
-mod calls;
 mod each_code;
 mod each_word;
 
 fn main() {
     each_word::print_all();
     each_code::print_all();
-    calls::print_all();
 }

@@ -56,7 +56,7 @@ fn print_word(m: usize, t: usize, message: &[u8], lent: &mut [u8])
 fn describe_with_room(m: usize, t: usize, places: usize)
     requires { ⌜ places ≤ 1024 ⌝ }
 {
-    let mut space = room::word_of_sevens();
+    let mut space = room::lent_word();
     print_generator(m, t, &mut space[..places]);
 }
 
@@ -65,7 +65,7 @@ fn encode_with_room(m: usize, t: usize, n: usize, k: usize)
 {
     let start = m * 1000 + t;
     let mut message = room::zeros();
-    let mut space = room::word_of_sevens();
+    let mut space = room::lent_word();
     made_up::fill(start as u64, &mut message);
     print_word(m, t, &message[..k], &mut space[..n]);
 }

@@ -113,8 +113,8 @@ pub fn decode(m: usize, t: usize, received: &[u8], tally: Tally) -> Tally
     requires { ⌜ (length (now received) ≤ 1023) × (t ≤ 256) ⌝ }
 {
     let n = received.len();
-    let mut word = room::word_of_sevens();
-    let mut list = room::list_of_junk();
+    let mut word = room::lent_word();
+    let mut list = room::lent_list();
     decode_into(m, t, received, &mut word[..n], &mut list[..t], tally)
 }
 

@@ -5,8 +5,8 @@ use borrow.Author.Needs.{needs}
 use Rattle.trials.proofs.each_code.describe_with_room.Statement.{statement}
 use Rattle.trials.proofs.each_code.describe_with_room.Tie as tie
 
-word-of-sevens-requires : tie.Need-word-of-sevens-requires
-word-of-sevens-requires c κs = search needs
+lent-word-requires : tie.Need-lent-word-requires
+lent-word-requires c κs = search needs
 
 array-borrow-prefix-space : tie.Need-array-borrow-prefix-space
 array-borrow-prefix-space c = search needs
@@ -24,7 +24,7 @@ pub describe-with-room-spec : {M : Type 1} → statement M
 describe-with-room-spec =
     tie.close
     (tie.spec
-    word-of-sevens-requires
+    lent-word-requires
     array-borrow-prefix-space
     slice-aggregate-print-generator
     print-generator-requires

@@ -14,8 +14,8 @@ add-start c = search needs
 zeros-requires : tie.Need-zeros-requires
 zeros-requires c κs = search needs
 
-word-of-sevens-requires : tie.Need-word-of-sevens-requires
-word-of-sevens-requires c κs = search needs
+lent-word-requires : tie.Need-lent-word-requires
+lent-word-requires c κs = search needs
 
 slice-aggregate-fill : tie.Need-slice-aggregate-fill
 slice-aggregate-fill c = search needs
@@ -48,7 +48,7 @@ encode-with-room-spec =
     mul-start
     add-start
     zeros-requires
-    word-of-sevens-requires
+    lent-word-requires
     slice-aggregate-fill
     fill-requires
     array-share-prefix-message

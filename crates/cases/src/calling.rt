@@ -1,0 +1,206 @@
+// The calls that change neither the lent word nor the record. Each operation is called by its C name.
+
+ghost use Prim.Native.Nat.{_≤_};
+ghost use lib.ListN.{length};
+use crate::numbers::number_at;
+use crate::numbers::same;
+use crate::showing::not_understood;
+use crate::showing::show_bytes;
+use crate::showing::show_decoded;
+use crate::showing::show_lent_bytes;
+use crate::showing::show_number;
+use kept::Kept;
+use workbench::room;
+use workbench::text::end_line;
+use workbench::text::print;
+use workbench::text::print_number;
+
+fn describe_into(line: u64, m: usize, t: usize, generator: &mut [u8]) {
+    let answer = card::blentovar_describe(m, t, generator);
+    show_number(line, answer.number);
+    print_number(answer.n as u64);
+    print_number(answer.k as u64);
+    print(b" generator");
+    show_lent_bytes(generator);
+    end_line();
+}
+
+fn describe(line: u64, numbers: &[usize]) {
+    let m = number_at(numbers, 0);
+    let t = number_at(numbers, 1);
+    let places = number_at(numbers, 2);
+    if numbers.len() == 3 && places <= 2048 {
+        let mut generator = room::lent_word();
+        describe_into(line, m, t, &mut generator[..places]);
+    } else {
+        not_understood(line);
+    }
+}
+
+fn encode_into(line: u64, m: usize, t: usize, message: &[u8], word: &mut [u8]) {
+    let number = card::blentovar_encode(m, t, message, word);
+    show_number(line, number);
+    print(b" word");
+    show_lent_bytes(word);
+    end_line();
+}
+
+fn encode(line: u64, numbers: &[usize], message: &[u8]) {
+    let m = number_at(numbers, 0);
+    let t = number_at(numbers, 1);
+    let places = number_at(numbers, 2);
+    if numbers.len() == 3 && places <= 2048 {
+        let mut word = room::lent_word();
+        encode_into(line, m, t, message, &mut word[..places]);
+    } else {
+        not_understood(line);
+    }
+}
+
+fn decode_into(line: u64, m: usize, t: usize, received: &[u8], word: &mut [u8], list: &mut [u16]) {
+    let answer = card::blentovar_decode(m, t, received, word, list);
+    show_decoded(line, answer, word, list);
+}
+
+fn decode(line: u64, numbers: &[usize], received: &[u8]) {
+    let m = number_at(numbers, 0);
+    let t = number_at(numbers, 1);
+    let places = number_at(numbers, 2);
+    let listing = number_at(numbers, 3);
+    if numbers.len() == 4 && places <= 2048 && listing <= 1024 {
+        let mut word = room::lent_word();
+        let mut list = room::lent_list();
+        decode_into(
+            line,
+            m,
+            t,
+            received,
+            &mut word[..places],
+            &mut list[..listing],
+        );
+    } else {
+        not_understood(line);
+    }
+}
+
+fn edit_copy(
+    line: u64,
+    m: usize,
+    t: usize,
+    start: usize,
+    word: &[u8],
+    stretch: &[u8],
+    copy: &mut [u8],
+)
+    requires { ⌜ length (now word) ≤ length (now copy) ⌝ }
+{
+    bits::copy_at(copy, 0, word);
+    let number = card::blentovar_edit(m, t, copy, start, stretch);
+    show_number(line, number);
+    print(b" word");
+    if same(copy, word) {
+        print(b" kept");
+    } else {
+        show_bytes(copy);
+    }
+    end_line();
+}
+
+// A copy is edited, so that the lent word stays for later calls.
+fn edit(line: u64, numbers: &[usize], word: &[u8], stretch: &[u8]) {
+    let m = number_at(numbers, 0);
+    let t = number_at(numbers, 1);
+    let start = number_at(numbers, 2);
+    let n = word.len();
+    if numbers.len() == 3 && n <= 2048 {
+        let mut copy = room::zeros();
+        edit_copy(line, m, t, start, word, stretch, &mut copy[..n]);
+    } else {
+        not_understood(line);
+    }
+}
+
+fn decode_kept_into(line: u64, record: Kept, word: &mut [u8], list: &mut [u16]) {
+    let answer = card::blentovar_decode_kept(record, word, list);
+    show_decoded(line, answer, word, list);
+}
+
+fn decode_kept(line: u64, numbers: &[usize], record: Kept) {
+    let places = number_at(numbers, 0);
+    let listing = number_at(numbers, 1);
+    if numbers.len() == 2 && places <= 2048 && listing <= 1024 {
+        let mut word = room::lent_word();
+        let mut list = room::lent_list();
+        decode_kept_into(line, record, &mut word[..places], &mut list[..listing]);
+    } else {
+        not_understood(line);
+    }
+}
+
+fn make_into(line: u64, house: u16, poll: u16, counter: u64, frame: &mut [u8]) {
+    let number = card::blentovar_make_frame(house, poll, counter, frame);
+    show_number(line, number);
+    print(b" frame");
+    show_lent_bytes(frame);
+    end_line();
+}
+
+fn make(line: u64, numbers: &[usize]) {
+    let house = number_at(numbers, 0);
+    let poll = number_at(numbers, 1);
+    let counter = number_at(numbers, 2) as u64;
+    let places = number_at(numbers, 3);
+    if numbers.len() == 4 && house <= 65535 && poll <= 65535 && places <= 2048 {
+        let mut frame = room::lent_word();
+        make_into(
+            line,
+            house as u16,
+            poll as u16,
+            counter,
+            &mut frame[..places],
+        );
+    } else {
+        not_understood(line);
+    }
+}
+
+fn read(line: u64, numbers: &[usize], frame: &[u8]) {
+    if numbers.len() == 0 {
+        let answer = card::blentovar_read_frame(frame);
+        show_number(line, answer.number);
+        print_number(answer.house as u64);
+        print_number(answer.poll as u64);
+        print_number(answer.counter);
+        print_number(answer.wrong as u64);
+        end_line();
+    } else {
+        not_understood(line);
+    }
+}
+
+pub(crate) fn call(
+    line: u64,
+    name: &[u8],
+    numbers: &[usize],
+    word: &[u8],
+    stretch: &[u8],
+    record: Kept,
+) {
+    if same(name, b"describe") {
+        describe(line, numbers);
+    } else if same(name, b"encode") {
+        encode(line, numbers, word);
+    } else if same(name, b"decode") {
+        decode(line, numbers, word);
+    } else if same(name, b"edit") {
+        edit(line, numbers, word, stretch);
+    } else if same(name, b"kept") {
+        decode_kept(line, numbers, record);
+    } else if same(name, b"make") {
+        make(line, numbers);
+    } else if same(name, b"read") {
+        read(line, numbers, word);
+    } else {
+        not_understood(line);
+    }
+}

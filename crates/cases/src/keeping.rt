@@ -1,0 +1,94 @@
+// The record: opened, spliced, and changed by hand.
+
+use crate::calling::call;
+use crate::numbers::number_at;
+use crate::numbers::same;
+use crate::showing::not_understood;
+use crate::showing::show_record;
+use kept::Kept;
+
+fn open(line: u64, numbers: &[usize], word: &[u8], record: Kept) -> Kept {
+    if numbers.len() != 2 {
+        not_understood(line);
+        return record;
+    }
+    let m = number_at(numbers, 0);
+    let t = number_at(numbers, 1);
+    let answer = card::blentovar_open(m, t, word);
+    show_record(line, answer);
+    answer.record
+}
+
+fn splice(line: u64, numbers: &[usize], stretch: &[u8], record: Kept) -> Kept {
+    if numbers.len() != 1 {
+        not_understood(line);
+        return record;
+    }
+    let start = number_at(numbers, 0);
+    let answer = card::blentovar_splice(record, start, stretch);
+    show_record(line, answer);
+    answer.record
+}
+
+fn with_code(line: u64, numbers: &[usize], record: Kept) -> Kept {
+    if numbers.len() != 2 {
+        not_understood(line);
+        return record;
+    }
+    let mut changed = record;
+    changed.m = number_at(numbers, 0);
+    changed.t = number_at(numbers, 1);
+    changed
+}
+
+fn with_bit(line: u64, numbers: &[usize], record: Kept) -> Kept {
+    let place = number_at(numbers, 0);
+    let value = number_at(numbers, 1);
+    if numbers.len() != 2 || place > 1022 || value > 255 {
+        not_understood(line);
+        return record;
+    }
+    let mut changed = record;
+    changed.bits[place] = value as u8;
+    changed
+}
+
+fn with_sum(line: u64, numbers: &[usize], record: Kept) -> Kept {
+    let place = number_at(numbers, 0);
+    let value = number_at(numbers, 1);
+    if numbers.len() != 2 || place > 254 || value > 65535 {
+        not_understood(line);
+        return record;
+    }
+    let mut changed = record;
+    changed.sums[place] = value as u16;
+    changed
+}
+
+// The record after a line that lends no new word or stretch.
+pub(crate) fn keep(
+    line: u64,
+    name: &[u8],
+    numbers: &[usize],
+    word: &[u8],
+    stretch: &[u8],
+    record: Kept,
+) -> Kept {
+    if same(name, b"open") {
+        return open(line, numbers, word, record);
+    }
+    if same(name, b"splice") {
+        return splice(line, numbers, stretch, record);
+    }
+    if same(name, b"code") {
+        return with_code(line, numbers, record);
+    }
+    if same(name, b"bit") {
+        return with_bit(line, numbers, record);
+    }
+    if same(name, b"sum") {
+        return with_sum(line, numbers, record);
+    }
+    call(line, name, numbers, word, stretch, record);
+    record
+}

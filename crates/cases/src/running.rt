@@ -1,0 +1,128 @@
+// A text run line by line, with what is lent from one line to the next.
+
+ghost use mathlib.Core.Path.{_≡_};
+ghost use Prim.Native.Nat.{_≤_};
+ghost use lib.ListN.{length};
+use crate::keeping::keep;
+use crate::numbers::fill_numbers;
+use crate::numbers::find;
+use crate::numbers::same;
+use crate::setting::set_all;
+use crate::setting::set_places;
+use crate::showing::not_understood;
+use kept::Kept;
+use workbench::room;
+
+// How much of the room for words and stretches is lent, and the record.
+struct Bench {
+    word: usize,
+    stretch: usize,
+    record: Kept,
+}
+
+fn nothing_lent() -> Bench
+    ensures { λ r. ⌜ (r .word ≤ 2048) × (r .stretch ≤ 2048) ⌝ }
+{
+    let record = Kept {
+        m: 0,
+        t: 0,
+        bits: [0; 1023],
+        sums: [0; 255],
+    };
+    Bench {
+        word: 0,
+        stretch: 0,
+        record,
+    }
+}
+
+fn run_command(
+    line: u64,
+    name: &[u8],
+    numbers: &[usize],
+    word: &mut [u8],
+    stretch: &mut [u8],
+    bench: Bench,
+) -> Bench
+    requires { ⌜ (bench .word ≤ length (now word)) × (bench .stretch ≤ length (now stretch)) ⌝ }
+    ensures { λ r. ⌜ (r .word ≤ length (now (word .exit))) × (r .stretch ≤ length (now (stretch .exit))) ⌝ }
+{
+    let mut after = bench;
+    if same(name, b"word") {
+        after.word = set_places(line, numbers, word);
+        return after;
+    }
+    if same(name, b"fill") {
+        after.word = set_all(line, numbers, word);
+        return after;
+    }
+    if same(name, b"stretch") {
+        after.stretch = set_places(line, numbers, stretch);
+        return after;
+    }
+    let n = bench.word;
+    let long = bench.stretch;
+    let record = keep(
+        line,
+        name,
+        numbers,
+        &word[..n],
+        &stretch[..long],
+        bench.record,
+    );
+    after.record = record;
+    after
+}
+
+// A line that starts with # is a comment, and an empty one says nothing.
+fn run_line(
+    line: u64,
+    text: &[u8],
+    numbers: &mut [usize],
+    word: &mut [u8],
+    stretch: &mut [u8],
+    bench: Bench,
+) -> Bench
+    requires { ⌜ (bench .word ≤ length (now word)) × (bench .stretch ≤ length (now stretch)) ⌝ }
+    ensures { λ r. ⌜ (r .word ≤ length (now (word .exit))) × (r .stretch ≤ length (now (stretch .exit))) ⌝ }
+{
+    if find(text, 0, b'#') == 0 {
+        return bench;
+    }
+    let end = find(text, 0, b' ');
+    let found = fill_numbers(text, end, numbers);
+    let count = found.count;
+    if !found.is_all {
+        not_understood(line);
+        return bench;
+    }
+    run_command(line, &text[..end], &numbers[..count], word, stretch, bench)
+}
+
+// Room for the longest word line: the length, and a place and a value 2,048 times.
+fn number_space() -> [usize; 4097]
+    ensures { λ r. ⌜ 4097 ≡ length r ⌝ }
+{
+    [0; 4097]
+}
+
+fn run_lines(text: &[u8], numbers: &mut [usize], word: &mut [u8], stretch: &mut [u8])
+    requires { ⌜ (length (now word) ≡ 2048) × (length (now stretch) ≡ 2048) ⌝ }
+{
+    let mut bench = nothing_lent();
+    let mut line = 0u64;
+    let mut at = 0;
+    while at < text.len() {
+        line += 1;
+        let end = find(text, at, b'\n');
+        bench = run_line(line, &text[at..end], numbers, word, stretch, bench);
+        at = end + 1;
+    }
+}
+
+pub(crate) fn run_text(text: &[u8]) {
+    let mut numbers = number_space();
+    let mut word = room::zeros();
+    let mut stretch = room::zeros();
+    run_lines(text, &mut numbers, &mut word, &mut stretch);
+}

@@ -1,0 +1,290 @@
+//! What crates/cases is to write for a text of commands: what each call answers, and what every lent buffer holds after it.
+
+use crate::euclid::{flipped, Decoder};
+use crate::frames::{Link, Reading, FRAME_BYTES};
+use crate::kept::{self, Kept};
+use crate::{editing, sheet, words};
+
+/// What there is room for: bytes of a text, numbers of a line, places of a word and of a list.
+const TEXT_ROOM: usize = 262_144;
+const NUMBER_ROOM: usize = 1 + 2 * WORD_ROOM;
+const WORD_ROOM: usize = 2_048;
+const LIST_ROOM: usize = 1_024;
+
+pub fn text(bytes: &[u8]) -> String {
+    if bytes.len() >= TEXT_ROOM {
+        return String::from("too long a text\n");
+    }
+    let mut bench = Bench {
+        word: vec![],
+        stretch: vec![],
+        record: Kept::zeros(),
+        link: Link::new(),
+    };
+    let lines = bytes.split(|byte| *byte == b'\n').enumerate();
+    lines.map(|(i, line)| bench.run(i + 1, line)).collect()
+}
+
+/// What is lent from one line to the next.
+struct Bench {
+    word: Vec<u8>,
+    stretch: Vec<u8>,
+    record: Kept,
+    link: Link,
+}
+
+impl Bench {
+    /// What a line makes the program write.
+    fn run(&mut self, number: usize, line: &[u8]) -> String {
+        if line.is_empty() || line[0] == b'#' {
+            return String::new();
+        }
+        match self.run_command(line) {
+            Some(answer) if answer.is_empty() => answer,
+            Some(answer) => format!("{number} {answer}\n"),
+            None => format!("{number} not understood\n"),
+        }
+    }
+
+    /// The answer, which is empty for a line that calls nothing, or nothing where the line is not understood.
+    fn run_command(&mut self, line: &[u8]) -> Option<String> {
+        let mut parts = line.split(|byte| *byte == b' ');
+        let name = parts.next()?;
+        let numbers: Vec<u64> = parts.map(number).collect::<Option<_>>()?;
+        if numbers.len() > NUMBER_ROOM {
+            return None;
+        }
+        match name {
+            b"word" => lend(&mut self.word, with_places(&numbers)),
+            b"fill" => lend(&mut self.word, filled(&numbers)),
+            b"stretch" => lend(&mut self.stretch, with_places(&numbers)),
+            b"code" | b"bit" | b"sum" => self.change_record(name, &numbers),
+            _ => self.call(name, &numbers),
+        }
+    }
+
+    fn change_record(&mut self, name: &[u8], numbers: &[u64]) -> Option<String> {
+        let &[first, second] = numbers else {
+            return None;
+        };
+        match name {
+            b"code" => (self.record.m, self.record.t) = (first, second),
+            b"bit" => *place_of(&mut self.record.bits, first)? = second.try_into().ok()?,
+            _ => *place_of(&mut self.record.sums, first)? = second.try_into().ok()?,
+        }
+        Some(String::new())
+    }
+
+    fn call(&mut self, name: &[u8], numbers: &[u64]) -> Option<String> {
+        match (name, numbers) {
+            (b"describe", &[m, t, places]) => Some(describe(m, t, word_room(places)?)),
+            (b"encode", &[m, t, places]) => Some(self.encode(m, t, word_room(places)?)),
+            (b"decode", &[m, t, places, listing]) => {
+                Some(self.decode(m, t, word_room(places)?, list_room(listing)?))
+            }
+            (b"edit", &[m, t, start]) => Some(self.edit(m, t, start)),
+            (b"open", &[m, t]) => Some(self.open(m, t)),
+            (b"splice", &[start]) => Some(self.splice(start)),
+            (b"kept", &[places, listing]) => {
+                Some(self.decode_kept(word_room(places)?, list_room(listing)?))
+            }
+            (b"make", &[house, poll, counter, places]) => {
+                let reading = Reading {
+                    house: house.try_into().ok()?,
+                    poll: poll.try_into().ok()?,
+                    counter,
+                };
+                Some(self.make(reading, word_room(places)?))
+            }
+            (b"read", &[]) => Some(self.read()),
+            _ => None,
+        }
+    }
+
+    fn encode(&self, m: u64, t: u64, places: usize) -> String {
+        let word = sheet::encode(m, t, &self.word, places)
+            .map(|code| words::with_parity(&code, &code.generator(), &self.word));
+        format!("{} word{}", number_of(&word), lent(word.ok()))
+    }
+
+    fn decode(&self, m: u64, t: u64, places: usize, listing: usize) -> String {
+        let found = sheet::decode(m, t, &self.word, places, listing)
+            .and_then(|code| Decoder::new(&code).wrong_places(&self.word).ok_or(6));
+        decoded(found.map(|places| (flipped(&self.word, &places), places)))
+    }
+
+    fn edit(&self, m: u64, t: u64, start: u64) -> String {
+        let word = sheet::edit(m, t, &self.word, start, &self.stretch).map(|code| {
+            let generator = code.generator();
+            editing::edit(&code, &generator, &self.word, start as usize, &self.stretch)
+        });
+        let number = number_of(&word);
+        let changed = word.ok().filter(|word| *word != self.word);
+        format!("{number} word{}", lent(changed))
+    }
+
+    fn open(&mut self, m: u64, t: u64) -> String {
+        let opened = sheet::open(m, t, &self.word).map(|code| kept::open(m, &code, &self.word));
+        let number = number_of(&opened);
+        self.record = opened.unwrap_or(Kept::zeros());
+        record(number, &self.record)
+    }
+
+    fn splice(&mut self, start: u64) -> String {
+        let spliced = sheet::splice(&self.record, start, &self.stretch)
+            .map(|code| kept::splice(&code, &self.record, start as usize, &self.stretch));
+        let number = number_of(&spliced);
+        if let Ok(spliced) = spliced {
+            self.record = spliced;
+        }
+        record(number, &self.record)
+    }
+
+    fn decode_kept(&self, places: usize, listing: usize) -> String {
+        let found = sheet::decode_kept(&self.record, places, listing)
+            .and_then(|code| kept::decode_kept(&code, &self.record).ok_or(6));
+        decoded(found)
+    }
+
+    fn make(&self, reading: Reading, places: usize) -> String {
+        let made = if places == FRAME_BYTES {
+            Ok(self.link.make(reading).to_vec())
+        } else {
+            Err(9)
+        };
+        format!("{} frame{}", number_of(&made), lent(made.ok()))
+    }
+
+    fn read(&self) -> String {
+        match self.link.read(&self.word) {
+            Ok((reading, wrong)) => {
+                let Reading {
+                    house,
+                    poll,
+                    counter,
+                } = reading;
+                format!("0 {house} {poll} {counter} {wrong}")
+            }
+            Err(number) => format!("{number} 0 0 0 0"),
+        }
+    }
+}
+
+/// Digits only, at least one, and below 2^64.
+fn number(digits: &[u8]) -> Option<u64> {
+    if !digits.iter().all(u8::is_ascii_digit) {
+        return None;
+    }
+    std::str::from_utf8(digits).ok()?.parse().ok()
+}
+
+/// A line that says what is lent, and does not say it rightly, leaves nothing lent.
+fn lend(slot: &mut Vec<u8>, word: Option<Vec<u8>>) -> Option<String> {
+    let answer = word.as_ref().map(|_| String::new());
+    *slot = word.unwrap_or_default();
+    answer
+}
+
+/// A length, then pairs of a place and what it holds.
+fn with_places(numbers: &[u64]) -> Option<Vec<u8>> {
+    let (length, pairs) = numbers.split_first()?;
+    let mut word = vec![0; word_room(*length)?];
+    for pair in pairs.chunks(2) {
+        let &[place, value] = pair else {
+            return None;
+        };
+        *place_of(&mut word, place)? = value.try_into().ok()?;
+    }
+    Some(word)
+}
+
+fn filled(numbers: &[u64]) -> Option<Vec<u8>> {
+    let &[length, value] = numbers else {
+        return None;
+    };
+    Some(vec![value.try_into().ok()?; word_room(length)?])
+}
+
+fn place_of<T>(places: &mut [T], place: u64) -> Option<&mut T> {
+    places.get_mut(usize::try_from(place).ok()?)
+}
+
+fn word_room(places: u64) -> Option<usize> {
+    places.try_into().ok().filter(|n| *n <= WORD_ROOM)
+}
+
+fn list_room(places: u64) -> Option<usize> {
+    places.try_into().ok().filter(|n| *n <= LIST_ROOM)
+}
+
+fn describe(m: u64, t: u64, places: usize) -> String {
+    match sheet::describe(m, t, places) {
+        Ok(code) => {
+            let generator = lent(Some(code.generator()));
+            format!("0 {} {} generator{generator}", code.n, code.k)
+        }
+        Err(number) => format!("{number} 0 0 generator kept"),
+    }
+}
+
+/// The mended word and its wrong places; the zeros at the end of the list do not show.
+fn decoded(found: Result<(Vec<u8>, Vec<usize>), u32>) -> String {
+    match found {
+        Ok((word, places)) => {
+            let list: Vec<u16> = places.iter().map(|place| *place as u16).collect();
+            let count = places.len();
+            format!("0 {count} word{} list{}", shown(&word), shown(&list))
+        }
+        Err(number) => format!("{number} 0 word kept list kept"),
+    }
+}
+
+fn record(number: u32, record: &Kept) -> String {
+    let Kept { m, t, bits, sums } = record;
+    format!("{number} {m} {t} bits{} sums{}", shown(bits), shown(sums))
+}
+
+/// The sheet's number, 0 where nothing is refused.
+fn number_of<T>(answer: &Result<T, u32>) -> u32 {
+    answer.as_ref().err().copied().unwrap_or(0)
+}
+
+/// What a buffer holds after a call, if it does not hold what it did before.
+fn lent(written: Option<Vec<u8>>) -> String {
+    written.map_or(String::from(" kept"), |bytes| shown(&bytes))
+}
+
+/// The places that do not hold 0.
+fn shown<T: Copy + Into<u64>>(values: &[T]) -> String {
+    let values = values.iter().map(|value| (*value).into()).enumerate();
+    values
+        .filter(|(_, value)| *value != 0)
+        .map(|(place, value)| format!(" {place}={value}"))
+        .collect()
+}
+
+#[cfg(test)]
+mod tests {
+    use super::text;
+
+    #[test]
+    fn calls_checked_by_hand() {
+        let commands = "# a comment\n\nword 5 0 1 2 1 4 1\nencode 4 3 15\nencode 4 4 15\nword 15 0 1 1 1 2 1 4 1\ndecode 4 3 15 3\n";
+        let expected = "4 0 word 0=1 1=1 2=1 6=1 9=1 10=1 12=1 14=1\n5 2 word kept\n7 0 3 word 0=1 1=1 2=1 4=1 5=1 8=1 10=1 list 0=5 1=8 2=10\n";
+        assert_eq!(text(commands.as_bytes()), expected);
+    }
+
+    #[test]
+    fn the_record_and_the_word_stay_from_line_to_line() {
+        let commands = "word 15\nopen 4 3\nstretch 4 0 1 1 1 2 1 3 1\nsplice 0\nkept 15 3\nstretch 1 0 1\nsplice 15\nedit 4 3 18446744073709551615\n";
+        let expected = "2 0 4 3 bits sums\n4 0 4 3 bits 0=1 1=1 2=1 3=1 sums 0=15 1=15 2=1\n5 6 0 word kept list kept\n7 12 4 3 bits 0=1 1=1 2=1 3=1 sums 0=15 1=15 2=1\n8 12 word kept\n";
+        assert_eq!(text(commands.as_bytes()), expected);
+    }
+
+    #[test]
+    fn what_is_not_understood_is_said() {
+        let commands = "mend 4 3\nword 3 3 1\nword 3 0\nword 3 0 256\ndescribe 4 3\ndescribe 4 +3 11\ndescribe 4 3 2049\nbit 1023 1\nedit 4 3 18446744073709551616\nread ";
+        let expected: String = (1..=10).map(|i| format!("{i} not understood\n")).collect();
+        assert_eq!(text(commands.as_bytes()), expected);
+    }
+}
