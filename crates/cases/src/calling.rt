@@ -2,6 +2,7 @@
 
 ghost use Prim.Native.Nat.{_≤_};
 ghost use lib.ListN.{length};
+use crate::commands::Command;
 use crate::numbers::number_at;
 use crate::numbers::same;
 use crate::showing::not_understood;
@@ -180,27 +181,20 @@ fn read(line: u64, numbers: &[usize], frame: &[u8]) {
 
 pub(crate) fn call(
     line: u64,
-    name: &[u8],
+    command: Command,
     numbers: &[usize],
     word: &[u8],
     stretch: &[u8],
     record: Kept,
 ) {
-    if same(name, b"describe") {
-        describe(line, numbers);
-    } else if same(name, b"encode") {
-        encode(line, numbers, word);
-    } else if same(name, b"decode") {
-        decode(line, numbers, word);
-    } else if same(name, b"edit") {
-        edit(line, numbers, word, stretch);
-    } else if same(name, b"kept") {
-        decode_kept(line, numbers, record);
-    } else if same(name, b"make") {
-        make(line, numbers);
-    } else if same(name, b"read") {
-        read(line, numbers, word);
-    } else {
-        not_understood(line);
+    match command {
+        Command::Describe => describe(line, numbers),
+        Command::Encode => encode(line, numbers, word),
+        Command::Decode => decode(line, numbers, word),
+        Command::Edit => edit(line, numbers, word, stretch),
+        Command::DecodeKept => decode_kept(line, numbers, record),
+        Command::Make => make(line, numbers),
+        Command::Read => read(line, numbers, word),
+        _ => not_understood(line),
     }
 }

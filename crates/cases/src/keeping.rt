@@ -1,8 +1,8 @@
 // The record: opened, spliced, and changed by hand.
 
 use crate::calling::call;
+use crate::commands::Command;
 use crate::numbers::number_at;
-use crate::numbers::same;
 use crate::showing::not_understood;
 use crate::showing::show_record;
 use kept::Kept;
@@ -68,27 +68,21 @@ fn with_sum(line: u64, numbers: &[usize], record: Kept) -> Kept {
 // The record after a line that lends no new word or stretch.
 pub(crate) fn keep(
     line: u64,
-    name: &[u8],
+    command: Command,
     numbers: &[usize],
     word: &[u8],
     stretch: &[u8],
     record: Kept,
 ) -> Kept {
-    if same(name, b"open") {
-        return open(line, numbers, word, record);
+    match command {
+        Command::Open => open(line, numbers, word, record),
+        Command::Splice => splice(line, numbers, stretch, record),
+        Command::Code => with_code(line, numbers, record),
+        Command::Bit => with_bit(line, numbers, record),
+        Command::Sum => with_sum(line, numbers, record),
+        _ => {
+            call(line, command, numbers, word, stretch, record);
+            record
+        }
     }
-    if same(name, b"splice") {
-        return splice(line, numbers, stretch, record);
-    }
-    if same(name, b"code") {
-        return with_code(line, numbers, record);
-    }
-    if same(name, b"bit") {
-        return with_bit(line, numbers, record);
-    }
-    if same(name, b"sum") {
-        return with_sum(line, numbers, record);
-    }
-    call(line, name, numbers, word, stretch, record);
-    record
 }

@@ -3,10 +3,11 @@
 ghost use mathlib.Core.Path.{_≡_};
 ghost use Prim.Native.Nat.{_≤_};
 ghost use lib.ListN.{length};
+use crate::commands::Command;
+use crate::commands::command_of;
 use crate::keeping::keep;
 use crate::numbers::fill_numbers;
 use crate::numbers::find;
-use crate::numbers::same;
 use crate::setting::set_all;
 use crate::setting::set_places;
 use crate::showing::not_understood;
@@ -38,7 +39,7 @@ fn nothing_lent() -> Bench
 
 fn run_command(
     line: u64,
-    name: &[u8],
+    command: Command,
     numbers: &[usize],
     word: &mut [u8],
     stretch: &mut [u8],
@@ -48,30 +49,34 @@ fn run_command(
     ensures { λ r. ⌜ (r .word ≤ length (now (word .exit))) × (r .stretch ≤ length (now (stretch .exit))) ⌝ }
 {
     let mut after = bench;
-    if same(name, b"word") {
-        after.word = set_places(line, numbers, word);
-        return after;
-    }
-    if same(name, b"fill") {
-        after.word = set_all(line, numbers, word);
-        return after;
-    }
-    if same(name, b"stretch") {
-        after.stretch = set_places(line, numbers, stretch);
-        return after;
-    }
     let n = bench.word;
     let long = bench.stretch;
-    let record = keep(
-        line,
-        name,
-        numbers,
-        &word[..n],
-        &stretch[..long],
-        bench.record,
-    );
-    after.record = record;
-    after
+    match command {
+        Command::Word => {
+            after.word = set_places(line, numbers, word);
+            after
+        }
+        Command::Fill => {
+            after.word = set_all(line, numbers, word);
+            after
+        }
+        Command::Stretch => {
+            after.stretch = set_places(line, numbers, stretch);
+            after
+        }
+        _ => {
+            let record = keep(
+                line,
+                command,
+                numbers,
+                &word[..n],
+                &stretch[..long],
+                bench.record,
+            );
+            after.record = record;
+            after
+        }
+    }
 }
 
 // A line that starts with # is a comment, and an empty one says nothing.
@@ -96,7 +101,8 @@ fn run_line(
         not_understood(line);
         return bench;
     }
-    run_command(line, &text[..end], &numbers[..count], word, stretch, bench)
+    let command = command_of(&text[..end]);
+    run_command(line, command, &numbers[..count], word, stretch, bench)
 }
 
 // Room for the longest word line: the length, and a place and a value 2,048 times.

@@ -17,7 +17,7 @@ fn fill(word: &mut [u8], value: u8)
 }
 
 fn put_byte(word: &mut [u8], place: usize, value: usize) -> bool
-    ensures { λ r. ⌜ length (now (word .exit)) ≡ length (now (word .entry)) ⌝ }
+    ensures { λ _. ⌜ length (now (word .exit)) ≡ length (now (word .entry)) ⌝ }
 {
     if place < word.len() && value < 256 {
         word[place] = value as u8;

@@ -5,50 +5,23 @@ use borrow.Author.Needs.{needs}
 use Rattle.cases.proofs.running.run_command.Statement.{statement}
 use Rattle.cases.proofs.running.run_command.Tie as tie
 
-slice-aggregate-same : tie.Need-slice-aggregate-same
-slice-aggregate-same c = search needs
-
-same-requires : tie.Need-same-requires
-same-requires c κs = search needs
+enum-told : tie.Need-enum-told
+enum-told c = search needs
 
 set-places-requires : tie.Need-set-places-requires
 set-places-requires c κs = search needs
 
-same-length : tie.Need-same-length
-same-length c = search needs
-
-returns : tie.Need-returns
-returns c = search needs
-
-slice-aggregate-same-2 : tie.Need-slice-aggregate-same-2
-slice-aggregate-same-2 c = search needs
-
-same-requires-2 : tie.Need-same-requires-2
-same-requires-2 c κs = search needs
+enum-told-2 : tie.Need-enum-told-2
+enum-told-2 c = search needs
 
 set-all-requires : tie.Need-set-all-requires
 set-all-requires c κs = search needs
 
-same-length-2 : tie.Need-same-length-2
-same-length-2 c = search needs
-
-returns-2 : tie.Need-returns-2
-returns-2 c = search needs
-
-slice-aggregate-same-3 : tie.Need-slice-aggregate-same-3
-slice-aggregate-same-3 c = search needs
-
-same-requires-3 : tie.Need-same-requires-3
-same-requires-3 c κs = search needs
+enum-told-3 : tie.Need-enum-told-3
+enum-told-3 c = search needs
 
 set-places-requires-2 : tie.Need-set-places-requires-2
 set-places-requires-2 c κs = search needs
-
-same-length-3 : tie.Need-same-length-3
-same-length-3 c = search needs
-
-returns-3 : tie.Need-returns-3
-returns-3 c = search needs
 
 slice-reshare-prefix-keep : tie.Need-slice-reshare-prefix-keep
 slice-reshare-prefix-keep c = search needs
@@ -65,6 +38,24 @@ slice-aggregate-keep-2 c = simp length-take (omega arith)
 keep-requires : tie.Need-keep-requires
 keep-requires c κs = search needs
 
+same-length : tie.Need-same-length
+same-length c = search needs
+
+returns : tie.Need-returns
+returns c = search needs
+
+same-length-2 : tie.Need-same-length-2
+same-length-2 c = search needs
+
+returns-2 : tie.Need-returns-2
+returns-2 c = search needs
+
+same-length-3 : tie.Need-same-length-3
+same-length-3 c = search needs
+
+returns-3 : tie.Need-returns-3
+returns-3 c = search needs
+
 same-length-4 : tie.Need-same-length-4
 same-length-4 c = search needs
 
@@ -78,26 +69,23 @@ pub run-command-spec : {M : Type 1} → statement M
 run-command-spec =
     tie.close
     (tie.spec
-    slice-aggregate-same
-    same-requires
+    enum-told
     set-places-requires
-    same-length
-    returns
-    slice-aggregate-same-2
-    same-requires-2
+    enum-told-2
     set-all-requires
-    same-length-2
-    returns-2
-    slice-aggregate-same-3
-    same-requires-3
+    enum-told-3
     set-places-requires-2
-    same-length-3
-    returns-3
     slice-reshare-prefix-keep
     slice-aggregate-keep
     slice-reshare-prefix-keep-2
     slice-aggregate-keep-2
     keep-requires
+    same-length
+    returns
+    same-length-2
+    returns-2
+    same-length-3
+    returns-3
     same-length-4
     same-length-5
     returns-4)

@@ -26,14 +26,17 @@ same-length c = search needs
 returns-2 : tie.Need-returns-2
 returns-2 c = search needs
 
-slice-aggregate-run-command : tie.Need-slice-aggregate-run-command
-slice-aggregate-run-command c = simp length-take (omega arith)
+slice-aggregate-command-of : tie.Need-slice-aggregate-command-of
+slice-aggregate-command-of c = simp length-take (omega arith)
+
+command-of-requires : tie.Need-command-of-requires
+command-of-requires c κs = search needs
 
 slice-reshare-prefix-run-command : tie.Need-slice-reshare-prefix-run-command
 slice-reshare-prefix-run-command c = search needs
 
-slice-aggregate-run-command-2 : tie.Need-slice-aggregate-run-command-2
-slice-aggregate-run-command-2 c = simp length-take (omega arith)
+slice-aggregate-run-command : tie.Need-slice-aggregate-run-command
+slice-aggregate-run-command c = simp length-take (omega arith)
 
 run-command-requires : tie.Need-run-command-requires
 run-command-requires c κs = search needs
@@ -61,9 +64,10 @@ run-line-spec =
     not-understood-requires
     same-length
     returns-2
-    slice-aggregate-run-command
+    slice-aggregate-command-of
+    command-of-requires
     slice-reshare-prefix-run-command
-    slice-aggregate-run-command-2
+    slice-aggregate-run-command
     run-command-requires
     same-length-2
     same-length-3
