@@ -79,15 +79,15 @@ fn run_command(
     }
 }
 
+// Room for the longest word line: the length, and a place and a value 2,048 times.
+fn number_space() -> [usize; 4097]
+    ensures { λ r. ⌜ 4097 ≡ length r ⌝ }
+{
+    [0; 4097]
+}
+
 // A line that starts with # is a comment, and an empty one says nothing.
-fn run_line(
-    line: u64,
-    text: &[u8],
-    numbers: &mut [usize],
-    word: &mut [u8],
-    stretch: &mut [u8],
-    bench: Bench,
-) -> Bench
+fn run_line(line: u64, text: &[u8], word: &mut [u8], stretch: &mut [u8], bench: Bench) -> Bench
     requires { ⌜ (bench .word ≤ length (now word)) × (bench .stretch ≤ length (now stretch)) ⌝ }
     ensures { λ r. ⌜ (r .word ≤ length (now (word .exit))) × (r .stretch ≤ length (now (stretch .exit))) ⌝ }
 {
@@ -95,7 +95,8 @@ fn run_line(
         return bench;
     }
     let end = find(text, 0, b' ');
-    let found = fill_numbers(text, end, numbers);
+    let mut numbers = number_space();
+    let found = fill_numbers(text, end, &mut numbers);
     let count = found.count;
     if !found.is_all {
         not_understood(line);
@@ -105,14 +106,7 @@ fn run_line(
     run_command(line, command, &numbers[..count], word, stretch, bench)
 }
 
-// Room for the longest word line: the length, and a place and a value 2,048 times.
-fn number_space() -> [usize; 4097]
-    ensures { λ r. ⌜ 4097 ≡ length r ⌝ }
-{
-    [0; 4097]
-}
-
-fn run_lines(text: &[u8], numbers: &mut [usize], word: &mut [u8], stretch: &mut [u8])
+fn run_lines(text: &[u8], word: &mut [u8], stretch: &mut [u8])
     requires { ⌜ (length (now word) ≡ 2048) × (length (now stretch) ≡ 2048) ⌝ }
 {
     let mut bench = nothing_lent();
@@ -121,14 +115,13 @@ fn run_lines(text: &[u8], numbers: &mut [usize], word: &mut [u8], stretch: &mut 
     while at < text.len() {
         line += 1;
         let end = find(text, at, b'\n');
-        bench = run_line(line, &text[at..end], numbers, word, stretch, bench);
+        bench = run_line(line, &text[at..end], word, stretch, bench);
         at = end + 1;
     }
 }
 
 pub(crate) fn run_text(text: &[u8]) {
-    let mut numbers = number_space();
     let mut word = room::zeros();
     let mut stretch = room::zeros();
-    run_lines(text, &mut numbers, &mut word, &mut stretch);
+    run_lines(text, &mut word, &mut stretch);
 }

@@ -14,14 +14,17 @@ returns c = search needs
 find-requires-2 : tie.Need-find-requires-2
 find-requires-2 c κs = search needs
 
+number-space-requires : tie.Need-number-space-requires
+number-space-requires c κs = search needs
+
+slice-aggregate-fill-numbers : tie.Need-slice-aggregate-fill-numbers
+slice-aggregate-fill-numbers c = search needs
+
 fill-numbers-requires : tie.Need-fill-numbers-requires
 fill-numbers-requires c κs = search needs
 
 not-understood-requires : tie.Need-not-understood-requires
 not-understood-requires c κs = search needs
-
-same-length : tie.Need-same-length
-same-length c = search needs
 
 returns-2 : tie.Need-returns-2
 returns-2 c = search needs
@@ -32,8 +35,8 @@ slice-aggregate-command-of c = simp length-take (omega arith)
 command-of-requires : tie.Need-command-of-requires
 command-of-requires c κs = search needs
 
-slice-reshare-prefix-run-command : tie.Need-slice-reshare-prefix-run-command
-slice-reshare-prefix-run-command c = search needs
+array-share-prefix-numbers : tie.Need-array-share-prefix-numbers
+array-share-prefix-numbers c = search needs
 
 slice-aggregate-run-command : tie.Need-slice-aggregate-run-command
 slice-aggregate-run-command c = simp length-take (omega arith)
@@ -41,14 +44,11 @@ slice-aggregate-run-command c = simp length-take (omega arith)
 run-command-requires : tie.Need-run-command-requires
 run-command-requires c κs = search needs
 
+same-length : tie.Need-same-length
+same-length c = search needs
+
 same-length-2 : tie.Need-same-length-2
 same-length-2 c = search needs
-
-same-length-3 : tie.Need-same-length-3
-same-length-3 c = search needs
-
-same-length-4 : tie.Need-same-length-4
-same-length-4 c = search needs
 
 returns-3 : tie.Need-returns-3
 returns-3 c = search needs
@@ -60,16 +60,16 @@ run-line-spec =
     find-requires
     returns
     find-requires-2
+    number-space-requires
+    slice-aggregate-fill-numbers
     fill-numbers-requires
     not-understood-requires
-    same-length
     returns-2
     slice-aggregate-command-of
     command-of-requires
-    slice-reshare-prefix-run-command
+    array-share-prefix-numbers
     slice-aggregate-run-command
     run-command-requires
+    same-length
     same-length-2
-    same-length-3
-    same-length-4
     returns-3)

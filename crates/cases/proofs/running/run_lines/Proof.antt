@@ -7,10 +7,10 @@ use Rattle.cases.proofs.running.run_lines.Statement.{statement}
 use Rattle.cases.proofs.running.run_lines.Tie as tie
 
 abbrev Inv-loop : tie.InvT-loop
-Inv-loop text numbers₀ word₀ stretch₀ bench₀ line₀ at₀ numbers word stretch bench line at = (at ≤ length text + 1) × (line ≤ at) × (length numbers ≡ length numbers₀) × (length word ≡ length word₀) × (length stretch ≡ length stretch₀) × (bench .word ≤ length word) × (bench .stretch ≤ length stretch)
+Inv-loop text word₀ stretch₀ bench₀ line₀ at₀ word stretch bench line at = (at ≤ length text + 1) × (line ≤ at) × (length word ≡ length word₀) × (length stretch ≡ length stretch₀) × (bench .word ≤ length word) × (bench .stretch ≤ length stretch)
 
 abbrev μ-loop : tie.MeasureT-loop
-μ-loop text numbers₀ word₀ stretch₀ bench₀ line₀ at₀ numbers word stretch bench line at = length text + 1 - at
+μ-loop text word₀ stretch₀ bench₀ line₀ at₀ word stretch bench line at = length text + 1 - at
 
 nothing-lent-requires : tie.Need-nothing-lent-requires Inv-loop μ-loop
 nothing-lent-requires c κs = search needs
@@ -51,9 +51,6 @@ same-length c = search needs
 same-length-2 : tie.Need-same-length-2 Inv-loop μ-loop
 same-length-2 c = search needs
 
-same-length-3 : tie.Need-same-length-3 Inv-loop μ-loop
-same-length-3 c = search needs
-
 returns : tie.Need-returns Inv-loop μ-loop
 returns c = search needs
 
@@ -76,5 +73,4 @@ run-lines-spec =
     loop-again
     same-length
     same-length-2
-    same-length-3
     returns)
