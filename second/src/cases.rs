@@ -1,9 +1,8 @@
 //! What crates/cases is to write for a text of commands: what each call answers, and what every lent buffer holds after it.
 
-use crate::euclid::{flipped, Decoder};
-use crate::frames::{Link, Reading, FRAME_BYTES};
-use crate::kept::{self, Kept};
-use crate::{editing, sheet, words};
+use crate::answers::{Answers, Mended};
+use crate::frames::Reading;
+use crate::kept::Kept;
 
 /// What there is room for: bytes of a text, numbers of a line, places of a word and of a list.
 const TEXT_ROOM: usize = 262_144;
@@ -19,7 +18,7 @@ pub fn text(bytes: &[u8]) -> String {
         word: vec![],
         stretch: vec![],
         record: Kept::zeros(),
-        link: Link::new(),
+        answers: Answers::new(),
     };
     let lines = bytes.split(|byte| *byte == b'\n').enumerate();
     lines.map(|(i, line)| bench.run(i + 1, line)).collect()
@@ -30,7 +29,7 @@ struct Bench {
     word: Vec<u8>,
     stretch: Vec<u8>,
     record: Kept,
-    link: Link,
+    answers: Answers,
 }
 
 impl Bench {
@@ -77,7 +76,7 @@ impl Bench {
 
     fn call(&mut self, name: &[u8], numbers: &[u64]) -> Option<String> {
         match (name, numbers) {
-            (b"describe", &[m, t, places]) => Some(describe(m, t, word_room(places)?)),
+            (b"describe", &[m, t, places]) => Some(self.describe(m, t, word_room(places)?)),
             (b"encode", &[m, t, places]) => Some(self.encode(m, t, word_room(places)?)),
             (b"decode", &[m, t, places, listing]) => {
                 Some(self.decode(m, t, word_room(places)?, list_room(listing)?))
@@ -101,38 +100,41 @@ impl Bench {
         }
     }
 
-    fn encode(&self, m: u64, t: u64, places: usize) -> String {
-        let word = sheet::encode(m, t, &self.word, places)
-            .map(|code| words::with_parity(&code, &code.generator(), &self.word));
+    fn describe(&mut self, m: u64, t: u64, places: usize) -> String {
+        match self.answers.describe(m, t, places) {
+            Ok(code) => {
+                let generator = shown(&code.generator);
+                format!("0 {} {} generator{generator}", code.n, code.k)
+            }
+            Err(number) => format!("{number} 0 0 generator kept"),
+        }
+    }
+
+    fn encode(&mut self, m: u64, t: u64, places: usize) -> String {
+        let word = self.answers.encode(m, t, &self.word, places);
         format!("{} word{}", number_of(&word), lent(word.ok()))
     }
 
     fn decode(&self, m: u64, t: u64, places: usize, listing: usize) -> String {
-        let found = sheet::decode(m, t, &self.word, places, listing)
-            .and_then(|code| Decoder::new(&code).wrong_places(&self.word).ok_or(6));
-        decoded(found.map(|places| (flipped(&self.word, &places), places)))
+        decoded(self.answers.decode(m, t, &self.word, places, listing))
     }
 
-    fn edit(&self, m: u64, t: u64, start: u64) -> String {
-        let word = sheet::edit(m, t, &self.word, start, &self.stretch).map(|code| {
-            let generator = code.generator();
-            editing::edit(&code, &generator, &self.word, start as usize, &self.stretch)
-        });
+    fn edit(&mut self, m: u64, t: u64, start: u64) -> String {
+        let word = self.answers.edit(m, t, &self.word, start, &self.stretch);
         let number = number_of(&word);
         let changed = word.ok().filter(|word| *word != self.word);
         format!("{number} word{}", lent(changed))
     }
 
     fn open(&mut self, m: u64, t: u64) -> String {
-        let opened = sheet::open(m, t, &self.word).map(|code| kept::open(m, &code, &self.word));
+        let opened = self.answers.open(m, t, &self.word);
         let number = number_of(&opened);
         self.record = opened.unwrap_or(Kept::zeros());
         record(number, &self.record)
     }
 
     fn splice(&mut self, start: u64) -> String {
-        let spliced = sheet::splice(&self.record, start, &self.stretch)
-            .map(|code| kept::splice(&code, &self.record, start as usize, &self.stretch));
+        let spliced = self.answers.splice(&self.record, start, &self.stretch);
         let number = number_of(&spliced);
         if let Ok(spliced) = spliced {
             self.record = spliced;
@@ -141,22 +143,17 @@ impl Bench {
     }
 
     fn decode_kept(&self, places: usize, listing: usize) -> String {
-        let found = sheet::decode_kept(&self.record, places, listing)
-            .and_then(|code| kept::decode_kept(&code, &self.record).ok_or(6));
-        decoded(found)
+        decoded(self.answers.decode_kept(&self.record, places, listing))
     }
 
     fn make(&self, reading: Reading, places: usize) -> String {
-        let made = if places == FRAME_BYTES {
-            Ok(self.link.make(reading).to_vec())
-        } else {
-            Err(9)
-        };
-        format!("{} frame{}", number_of(&made), lent(made.ok()))
+        let made = self.answers.make_frame(reading, places);
+        let frame = made.ok().map(|frame| frame.to_vec());
+        format!("{} frame{}", number_of(&made), lent(frame))
     }
 
     fn read(&self) -> String {
-        match self.link.read(&self.word) {
+        match self.answers.read_frame(&self.word) {
             Ok((reading, wrong)) => {
                 let Reading {
                     house,
@@ -217,20 +214,10 @@ fn list_room(places: u64) -> Option<usize> {
     places.try_into().ok().filter(|n| *n <= LIST_ROOM)
 }
 
-fn describe(m: u64, t: u64, places: usize) -> String {
-    match sheet::describe(m, t, places) {
-        Ok(code) => {
-            let generator = lent(Some(code.generator()));
-            format!("0 {} {} generator{generator}", code.n, code.k)
-        }
-        Err(number) => format!("{number} 0 0 generator kept"),
-    }
-}
-
 /// The mended word and its wrong places; the zeros at the end of the list do not show.
-fn decoded(found: Result<(Vec<u8>, Vec<usize>), u32>) -> String {
+fn decoded(found: Result<Mended, u32>) -> String {
     match found {
-        Ok((word, places)) => {
+        Ok(Mended { word, places }) => {
             let list: Vec<u16> = places.iter().map(|place| *place as u16).collect();
             let count = places.len();
             format!("0 {count} word{} list{}", shown(&word), shown(&list))
