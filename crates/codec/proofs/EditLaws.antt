@@ -4,9 +4,9 @@ use mathlib.Core.Bool.{Bool, true, false, not, _||_, true≢false}
 use mathlib.Core.List.{List}
 use Prim.Native.Nat.{ℕ, _+_, _-_, _≤_, _<_}
 use native.Mathlib.Omega.{arith}
-use borrow.Author.Tests.{eq-eqb, ne-eqb, lt-ltb, le-ltb, ltb-false}
+use borrow.Author.Tests.{eq-eqb, ne-eqb, ltb-false}
 use lib.Bits.{bitXor, xor-zero-r, xor-comm}
-use lib.Dec.{eqb, ltb}
+use lib.Dec.{eqb}
 use lib.ListN.{length, getD, take}
 use lib.Seq.{getD-take}
 use Rattle.sheet.specs.declared.Refusal.{Refusal}
@@ -88,16 +88,6 @@ module _ {m row d start : ℕ} (w : RowOf m row) (is-d : d ≡ nOf m - getD ks r
 pub edit-early : {m t start : ℕ} {r : Refusal} (lent stretch : List ℕ) → ((later : ℕ) → codeRefusal m t later ≡ numberOf r) → Edits m t lent start stretch (Refused r) lent
 unfolding editRefusal
 edit-early {r = r} lent stretch e = record { number = sym (e _); done = λ z. absurd (refusal-not r (sym (e _) ∙ z)); refused = λ n. refl }
-
--- what the searches for a place above 1 tell
-module _ {bad : ℕ} (word stretch : List ℕ) (e : bad ≡ firstAbove word) where
-  pub bad-word : bad < length word → true ≡ hasBadBit word || hasBadBit stretch
-  bad-word h = sym (ap (λ (b : Bool). b || hasBadBit stretch) (lt-ltb (firstAbove word) (length word) (omega arith)))
-
-  pub bad-stretch : length word ≤ bad → {bad-new : ℕ} → bad-new ≡ firstAbove stretch → ltb bad-new (length stretch) ≡ hasBadBit word || hasBadBit stretch
-  bad-stretch h f =
-      ap (λ (x : ℕ). ltb x (length stretch)) f
-      ∙ sym (ap (λ (b : Bool). b || hasBadBit stretch) (le-ltb (firstAbove word) (length word) (omega arith)))
 
 -- one test for two checks with the same number
 refused-twice : (a b : Bool) (n later : ℕ) → refuseIf a n (refuseIf b n later) ≡ refuseIf (a || b) n later

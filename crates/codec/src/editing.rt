@@ -51,12 +51,11 @@ fn edit_row(m: usize, row: usize, k: usize, word: &mut [u8], start: usize, stret
 fn has_bad_bit(word: &[u8], stretch: &[u8]) -> bool
     ensures { λ r. ⌜ r ≡ hasBadBit (now (word .entry)) || hasBadBit (now (stretch .entry)) ⌝ }
 {
-    let bad = bits::first_above_one(word);
-    if bad < word.len() {
+    let in_word = bits::has_bad_bit(word);
+    if in_word {
         return true;
     }
-    let bad_new = bits::first_above_one(stretch);
-    bad_new < stretch.len()
+    bits::has_bad_bit(stretch)
 }
 
 // Into a word of a row of m, d being n - k, the code word that carries the change of the message is added.

@@ -1,21 +1,29 @@
--- The first place above 1 of either tells.
-use Rattle.codec.proofs.EditLaws.{bad-word, bad-stretch}
+-- Either of the two tells.
+use mathlib.Core.Path.{_≡_, _∙_, refl, sym, ap}
+use mathlib.Core.Bool.{Bool, true, false, _||_}
 use borrow.Author.Needs.{needs}
 use Rattle.codec.proofs.editing.has_bad_bit.Statement.{statement}
 use Rattle.codec.proofs.editing.has_bad_bit.Tie as tie
 
-first-above-one-requires : tie.Need-first-above-one-requires
-first-above-one-requires c κs = search needs
+-- what `||` gives, by what the first gives
+first : {a r : Bool} (b : Bool) → r ≡ a → r ≡ true → true ≡ a || b
+first b e t = ap (λ (x : Bool). x || b) (sym t ∙ e)
+
+second : {a r : Bool} (b : Bool) → r ≡ a → r ≡ false → b ≡ a || b
+second b e f = ap (λ (x : Bool). x || b) (sym f ∙ e)
+
+has-bad-bit-requires : tie.Need-has-bad-bit-requires
+has-bad-bit-requires c κs = search needs
 
 returns : tie.Need-returns
-returns c = bad-word (c .before .before .before .before .args .word .now) (c .before .before .before .before .args .stretch .now) (c .before .first-above-one .ensures) (c .if1 .taken)
+returns c = first _ (c .before .has-bad-bit .ensures) (c .if1 .taken)
 
-first-above-one-requires-2 : tie.Need-first-above-one-requires-2
-first-above-one-requires-2 c κs = search needs
+has-bad-bit-requires-2 : tie.Need-has-bad-bit-requires-2
+has-bad-bit-requires-2 c κs = search needs
 
 returns-2 : tie.Need-returns-2
-returns-2 c = bad-stretch (c .before .before .before .before .before .args .word .now) (c .before .before .before .before .before .args .stretch .now) (c .before .before .first-above-one .ensures) (c .before .if1 .left) (c .first-above-one2 .ensures)
+returns-2 c = c .has-bad-bit2 .ensures ∙ second _ (c .before .before .has-bad-bit .ensures) (c .before .if1 .left)
 
 pub has-bad-bit-spec : {M : Type 1} → statement M
 has-bad-bit-spec =
-    tie.close (tie.spec first-above-one-requires returns first-above-one-requires-2 returns-2)
+    tie.close (tie.spec has-bad-bit-requires returns has-bad-bit-requires-2 returns-2)
