@@ -14,8 +14,8 @@ use Rattle.sheet.proofs.NumberLaws.{number-positive}
 use Rattle.field.specs.Power.{nOf}
 use Rattle.codes.specs.Table.{RowOf, ListedCode, ks, ts}
 use Rattle.codes.specs.Look.{codeRefusal}
-use Rattle.codes.specs.Generator.{Generator}
 use Rattle.codes.proofs.LookLaws.{code-accepted, listed-k}
+use Rattle.generator.specs.Generator.{Generator}
 use Rattle.codec.specs.declared.describing.Described.the-variants.{Code, Refused}
 use Rattle.codec.specs.Describe.{Describes, describeRefusal}
 

@@ -9,7 +9,7 @@ use lib.ListN.{length}
 use Rattle.sheet.specs.Number.{numberOf, refuseIf}
 use Rattle.field.specs.Power.{nOf}
 use Rattle.codes.specs.Look.{kOf, codeRefusal}
-use Rattle.codes.specs.Generator.{Generator}
+use Rattle.generator.specs.Generator.{Generator}
 use Rattle.codec.specs.declared.describing.Described.{Described}
 use Rattle.codec.specs.declared.describing.Described.the-variants.{Code, Refused}
 

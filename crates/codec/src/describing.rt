@@ -32,6 +32,6 @@ fn describe_row(m: usize, row: usize, k: usize, generator: &mut [u8]) -> Describ
     if generator.len() != places {
         return Described::Refused(Refusal::OutputLength);
     }
-    codes::fill_generator(m, row, generator);
+    generator::fill_generator(m, row, generator);
     Described::Code { n, k }
 }

@@ -2,11 +2,11 @@
 use mathlib.Core.Path.{_≡_, _∙_, refl, sym, ap, ap₂, fst-path}
 use mathlib.Core.Logic.{_≢_}
 use mathlib.Core.List.{List, [], _∷_, map, List·Memᴰ, List·Memᴰ·head, List·Memᴰ·tail, List·Memᴰ·not-nil}
-use Prim.Native.Nat.{ℕ, zero, suc, _*_, _≤_, _<_}
+use Prim.Native.Nat.{ℕ, zero, suc, _-_, _*_, _≤_, _<_}
 use native.Mathlib.Nat.{mod-lt}
-use native.Mathlib.Decide.{decLe, ℕ-discrete}
+use native.Mathlib.Decide.{decLe}
 use native.Mathlib.Omega.{arith}
-use lib.ListN.{length, getD, length-map, List·getD-eq-default}
+use lib.ListN.{length, getD, length-map}
 use lib.Seq.{ext-getD}
 use Rattle.algebra.specs.Series as Series
 use Rattle.algebra.proofs.Roots.{vanishing}
@@ -20,9 +20,11 @@ use Rattle.field.proofs.ProductLaws.{product-zero}
 use Rattle.field.proofs.PowerLaws.{power-bound, one-bound}
 use Rattle.field.proofs.Order.{power-injective, eight-bound}
 use Rattle.field.proofs.Field.{Element, el-path, element, ringOf, field}
+use Rattle.codes.specs.Table.{ks, ts, RowOf}
 use Rattle.codes.specs.Rule.{Residue}
-use Rattle.codes.specs.Generator.{Generator}
 use Rattle.codes.specs.Sums.{sumOf, CodeWord}
+use Rattle.codes.proofs.Count.{members, members-distinct}
+use Rattle.codes.proofs.Walk.{right-row-at}
 use Rattle.codes.proofs.SumLaws.{added-place, sumOf-nil, sum-none, sum-cons, sum-added, sum-class}
 
 -- d different residues, of which the sums of a code word are 0
@@ -105,7 +107,7 @@ module _ {m : ℕ} (L : Listed m) where
     only-zero xs b z h = zero-by-roots d rs (R .long) (R .differ) root-below xs b z (root-sum xs b h)
 
     -- two words that agree from place d on, with the same sums
-    same-words : (xs ys : List ℕ) → AreBits xs → AreBits ys → length xs ≡ length ys → ((i : ℕ) → d ≤ i → getD xs i 0 ≡ getD ys i 0)
+    pub same-words : (xs ys : List ℕ) → AreBits xs → AreBits ys → length xs ≡ length ys → ((i : ℕ) → d ≤ i → getD xs i 0 ≡ getD ys i 0)
         → ((j : ℕ) → 1 ≤ j → j ≤ 2 * t → sumOf m j xs ≡ 0) → ((j : ℕ) → 1 ≤ j → j ≤ 2 * t → sumOf m j ys ≡ 0) → xs ≡ ys
     same-words xs ys b c e z h k =
         ext-getD 0 xs ys e
@@ -121,15 +123,8 @@ module _ {m : ℕ} (L : Listed m) where
     pub one-code-word : (c w : List ℕ) → CodeWord m t c → CodeWord m t w → ((i : ℕ) → d ≤ i → getD c i 0 ≡ getD w i 0) → c ≡ w
     one-code-word c w C W z = same-words c w (C .bits) (W .bits) (C .long ∙ sym (W .long)) z (C .sums) (W .sums)
 
-    pub one-generator : (g h : List ℕ) → Generator m t d g → Generator m t d h → g ≡ h
-    one-generator g h G H = same-words g h (G .bits) (H .bits) (G .long ∙ sym (H .long)) above (G .sums) (H .sums)
-      where
-        past : (w : List ℕ) → Generator m t d w → (i : ℕ) → d < i → getD w i 0 ≡ 0
-        past w W i l = List·getD-eq-default w 0 (omega (arith, W .long))
-
-        above : (i : ℕ) → d ≤ i → getD g i 0 ≡ getD h i 0
-        above i l = pick (ℕ-discrete i d)
-          where
-            pick : Dec (i ≡ d) → getD g i 0 ≡ getD h i 0
-            pick (yes e) = rw e (G .top ∙ sym (H .top))
-            pick (no e) = past g G i (omega arith) ∙ sym (past h H i (omega arith))
+-- d different residues of t, for users of the root bound
+pub roots-of-row : {m r : ℕ} → RowOf m r → (rs : List ℕ) × Roots m (getD ts r 0) (nOf m - getD ks r 0) rs
+roots-of-row w =
+    let M = members (right-row-at w .count) in
+    (M .list, record { long = M .long; differ = members-distinct M; residue = M .have })

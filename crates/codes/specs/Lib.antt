@@ -2,6 +2,4 @@ pub mod Table
 pub mod Rule
 pub mod Sums
 pub mod Look
-pub mod Generator
-pub mod Work
 pub mod Encoding

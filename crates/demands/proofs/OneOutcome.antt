@@ -11,8 +11,8 @@ use Rattle.codes.specs.Table.{ListedCode}
 use Rattle.codes.specs.Look.{kOf}
 use Rattle.codes.proofs.LookLaws.{code-listed}
 use Rattle.codes.proofs.Rows.{row-facts}
-use Rattle.codes.proofs.GeneratorLaws.{roots-of-row}
-use Rattle.codes.proofs.Unique.{Roots, one-generator, one-code-word}
+use Rattle.codes.proofs.Unique.{Roots, one-code-word, roots-of-row}
+use Rattle.generator.proofs.GeneratorLaws.{one-generator}
 use Rattle.codec.specs.declared.describing.Described.{Described}
 use Rattle.codec.specs.declared.describing.Described.the-variants.{Code, Refused}
 use Rattle.codec.specs.declared.encoding.Encoded.{Encoded}

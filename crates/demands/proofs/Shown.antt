@@ -12,15 +12,16 @@ use Rattle.field.specs.Power.{nOf}
 use Rattle.field.proofs.SumLaws.{sum-zero, sum-self}
 use Rattle.codes.specs.Table.{RowOf, ks, ts}
 use Rattle.codes.specs.Sums.{CodeWord}
-use Rattle.codes.specs.Generator.{Generator, generatorOf}
-use Rattle.codes.proofs.GeneratorLaws.{roots-of-row, generator-is-product}
 use Rattle.codes.proofs.Rows.{row-facts}
-use Rattle.codes.proofs.Taps.{delayed-before, delayed-at}
-use Rattle.codes.proofs.Multiple.{multiple}
+use Rattle.codes.proofs.Unique.{roots-of-row}
 use Rattle.codes.specs.Encoding.{Encoding}
+use Rattle.generator.specs.Generator.{Generator, generatorOf}
+use Rattle.generator.proofs.GeneratorLaws.{generator-is-product}
+use Rattle.generator.proofs.Taps.{delayed-before, delayed-at}
+use Rattle.generator.proofs.Multiple.{multiple}
 
 module _ {m row : ℕ} (w : RowOf m row) where
-  -- the generator is the product of the minimal polynomials of the rows up to its own, which are those of a, a^3, .. a^(2t-1) (codes, Factors)
+  -- the generator is the product of the minimal polynomials of the rows up to its own, which are those of a, a^3, .. a^(2t-1) (generator, Factors)
   pub generator-product : (g : List ℕ) → Generator m (getD ts row 0) (nOf m - getD ks row 0) g → (i : ℕ) → getD g i 0 ≡ getD (generatorOf m row) i 0
   generator-product g G = generator-is-product w g G
 

@@ -15,10 +15,10 @@ use Rattle.field.specs.Power.{nOf}
 use Rattle.field.proofs.SumLaws.{sum-self}
 use Rattle.codes.specs.Table.{RowOf, ks, ts}
 use Rattle.codes.specs.Sums.{sumOf}
-use Rattle.codes.specs.Generator.{Generator}
-use Rattle.codes.specs.Work.{Reduced}
 use Rattle.codes.proofs.SumLaws.{sum-same, sum-added}
 use Rattle.codes.specs.Encoding.{Encoding}
+use Rattle.generator.specs.Generator.{Generator}
+use Rattle.generator.specs.Work.{Reduced}
 use Rattle.parity.specs.Work.{WithParity}
 
 -- cutting off what is zero changes nothing

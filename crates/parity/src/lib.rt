@@ -15,7 +15,7 @@ pub fn fill_word(m: usize, row: usize, d: usize, message: &[u8], word: &mut [u8]
     requires { ⌜ RowOf m row × (d ≡ nOf m - getD ks row 0) × AreBits (now message) × (length (now message) ≡ getD ks row 0) × (length (now word) ≡ nOf m) ⌝ }
     ensures { λ _. ⌜ Encoding m (getD ts row 0) (getD ks row 0) (now (message .entry)) (now (word .exit)) ⌝ }
 {
-    let g = codes::generator(m, row, d);
+    let g = generator::generator(m, row, d);
     let end = d + 1;
     place_message(d, message, word);
     add_parity(word, &g[..end], d);
@@ -38,7 +38,7 @@ fn add_parity(word: &mut [u8], g: &[u8], d: usize)
     let n = word.len();
     let mut space = bits::word_space();
     bits::copy_at(&mut space, 0, word);
-    codes::reduce(&mut space[..n], g, d);
+    generator::reduce(&mut space[..n], g, d);
     bits::add_at(word, 0, &space[..d]);
 }
 

@@ -8,7 +8,7 @@ use lib.ListN.{length, take, drop, length-append}
 use lib.Seq.{length-take-le, take-append-le}
 use Rattle.bits.specs.Bits.{AreBits, addedAt}
 use Rattle.bits.proofs.Turns.{copied-front}
-use Rattle.codes.specs.Work.{Reduced}
+use Rattle.generator.specs.Work.{Reduced}
 use Rattle.parity.proofs.Parity.{with-parity}
 use borrow.Author.Needs.{needs}
 use Rattle.parity.proofs.add_parity.Statement.{statement}

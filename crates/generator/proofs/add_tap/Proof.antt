@@ -1,0 +1,59 @@
+-- Added, or nothing to add.
+use borrow.Author.Needs.{needs}
+use native.Mathlib.Omega.{arith}
+use lib.Seq.{length-take-le}
+use mathlib.Core.Path.{_≡_, sym}
+use mathlib.Core.List.{List}
+use Prim.Native.Nat.{ℕ, _-_, _%_}
+use lib.ListN.{length, take}
+use Rattle.generator.proofs.Taps.{tap-skipped, tap-past, tap-added}
+use borrow.Author.Needs.{needs}
+use Rattle.generator.proofs.add_tap.Statement.{statement}
+use Rattle.generator.proofs.add_tap.Tie as tie
+
+part : (g old : List ℕ) (e : ℕ) → length old ≡ length g → length (take (length g - e) old) ≡ length g - e
+part g old e s = length-take-le (length g - e) old (omega arith)
+
+odd : (x : ℕ) → (x % 2 ≡ 0 → ⊥) → x % 2 ≡ 1
+odd x h = omega arith
+
+cast-if1 : tie.Need-cast-if1
+cast-if1 c = search needs
+
+shr-if1 : tie.Need-shr-if1
+shr-if1 c = search needs
+
+returns : tie.Need-returns
+returns c = let p = c .before .before .before .pre in tap-skipped _ _ (p .0) (p .1) (p .2) (c .if1 .taken)
+
+returns-2 : tie.Need-returns-2
+returns-2 c = let p = c .before .before .before .before .pre in tap-past _ _ (p .0) (p .1) (p .2) (c .if2 .taken)
+
+sub-end : tie.Need-sub-end
+sub-end c = search needs
+
+slice-aggregate-add-at : tie.Need-slice-aggregate-add-at
+slice-aggregate-add-at c = sym (part (c .before .before .before .before .before .before .args .g .now) (c .before .before .before .before .before .before .args .old .now) (c .before .before .before .before .before .before .args .e) (c .before .before .before .before .before .before .pre .2))
+
+add-at-requires : tie.Need-add-at-requires
+add-at-requires c κs = let l = part (c .before .before .before .before .before .before .args .g .now) (c .before .before .before .before .before .before .args .old .now) (c .before .before .before .before .before .before .args .e) (c .before .before .before .before .before .before .pre .2) in omega (arith, l)
+
+same-length : tie.Need-same-length
+same-length c = search needs
+
+returns-3 : tie.Need-returns-3
+returns-3 c = let p = c .before .before .before .before .before .before .before .before .before .pre in rw (c .before .before .add-at .ensures) (tap-added _ _ (p .0) (p .1) (p .2) (odd _ (c .before .before .before .before .before .before .if1 .left)) (c .before .before .before .before .before .if2 .left))
+
+pub add-tap-spec : {M : Type 1} → statement M
+add-tap-spec =
+    tie.close
+    (tie.spec
+    cast-if1
+    shr-if1
+    returns
+    returns-2
+    sub-end
+    slice-aggregate-add-at
+    add-at-requires
+    same-length
+    returns-3)

@@ -1,0 +1,3 @@
+pub mod Minimals
+pub mod Generator
+pub mod Work
