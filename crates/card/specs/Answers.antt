@@ -14,7 +14,7 @@ use Rattle.kept.specs.declared.Kept.{Kept}
 use Rattle.kept.specs.declared.Answer.{Answer}
 use Rattle.kept.specs.Record.{outcomeNumber}
 use Rattle.kept.specs.Open.{Opens}
-use Rattle.kept.specs.Splice.{Splices}
+use Rattle.splice.specs.Splice.{Splices}
 use Rattle.decode_kept.specs.DecodeKept.{DecodesKept}
 use Rattle.frame.specs.declared.making.Making.{Making}
 use Rattle.frame.specs.declared.reading.ReadFrame.{ReadFrame}

@@ -132,7 +132,7 @@ pub extern "C" fn blentovar_open(m: usize, t: usize, word: &[u8]) -> KeptAnswer
 pub extern "C" fn blentovar_splice(kept: Kept, start: usize, stretch: &[u8]) -> KeptAnswer
     ensures { λ r. ⌜ SplicesAs kept start (now (stretch .entry)) r ⌝ }
 {
-    let answer = kept::splice(kept, start, stretch);
+    let answer = splice::splice(kept, start, stretch);
     let outcome = answer.outcome;
     let record = answer.record;
     let number = outcome_number(outcome);

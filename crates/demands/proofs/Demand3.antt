@@ -28,7 +28,7 @@ use Rattle.kept.specs.declared.Kept.{Kept}
 use Rattle.kept.specs.declared.Answer.{Answer}
 use Rattle.kept.specs.Record.{badRecord}
 use Rattle.kept.specs.Open.{Opens, Opened, openRefusal}
-use Rattle.kept.specs.Splice.{Splices, Spliced, spliceRefusal}
+use Rattle.splice.specs.Splice.{Splices, Spliced, spliceRefusal}
 use Rattle.decode_kept.specs.DecodeKept.{DecodesKept, FindsKept, decodeKeptRefusal}
 use Rattle.kept.proofs.RecordLaws.{sound-passes}
 use Rattle.demands.proofs.Near.{decode-one}

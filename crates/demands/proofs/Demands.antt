@@ -22,7 +22,7 @@ use Rattle.codec.specs.Edit.{Edits, editRefusal}
 use Rattle.kept.specs.declared.Kept.{Kept}
 use Rattle.kept.specs.declared.Answer.{Answer}
 use Rattle.kept.specs.Open.{Opens, openRefusal}
-use Rattle.kept.specs.Splice.{Splices, spliceRefusal}
+use Rattle.splice.specs.Splice.{Splices, spliceRefusal}
 use Rattle.decode_kept.specs.DecodeKept.{DecodesKept}
 use Rattle.frame.specs.declared.places.Reading.{Reading}
 use Rattle.frame.specs.declared.making.Making.{Making}

@@ -26,10 +26,10 @@ use Rattle.kept.specs.declared.Outcome.{Outcome}
 use Rattle.kept.specs.declared.Outcome.the-variants.{Done, Refused}
 use Rattle.kept.specs.Record.{outcomeNumber, badRecord}
 use Rattle.kept.specs.Open.{Opens, Opened, openRefusal}
-use Rattle.kept.specs.Splice.{Splices, Spliced, spliceRefusal, plusChange}
+use Rattle.splice.specs.Splice.{Splices, Spliced, spliceRefusal, plusChange}
 use Rattle.decode_kept.specs.DecodeKept.{DecodesKept, decodeKeptRefusal}
 use Rattle.kept.proofs.RecordLaws.{kept-same}
-use Rattle.kept.proofs.SpliceLaws.{none-added}
+use Rattle.splice.proofs.SpliceLaws.{none-added}
 use Rattle.demands.proofs.Near.{passed, decoded-tells, refused-alike}
 
 pub outcome-tells : (x y : Outcome) → outcomeNumber x ≡ outcomeNumber y → x ≡ y

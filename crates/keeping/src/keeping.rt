@@ -43,7 +43,7 @@ fn splice_with(t: usize, start: usize, stretch: &mut [u8], step: Step) -> Step
 {
     let tally = step.tally;
     let state = made_up::fill(tally.state, stretch);
-    let answer = kept::splice(step.record, start, stretch);
+    let answer = splice::splice(step.record, start, stretch);
     noted(t, answer, tally::with_state(tally, state))
 }
 
@@ -81,9 +81,9 @@ fn splice_some(t: usize, n: usize, step: Step) -> Step
 fn splice_refused(t: usize, n: usize, step: Step) -> Step
     requires { ⌜ t ≤ 255 ⌝ }
 {
-    let past = kept::splice(step.record, n, b"\x01");
+    let past = splice::splice(step.record, n, b"\x01");
     let after = noted(t, past, step.tally);
-    let bad = kept::splice(after.record, 0, b"\x02");
+    let bad = splice::splice(after.record, 0, b"\x02");
     noted(t, bad, after.tally)
 }
 

@@ -1,4 +1,3 @@
 pub mod Record
 pub mod Open
-pub mod Splice
 pub mod Work

@@ -1,13 +1,11 @@
-// The kept record: Open and Splice.
+// The kept record, and Open.
 
 mod checking;
 mod opening;
-mod splicing;
 
 pub use checking::is_bad;
 pub use opening::open;
 use sheet::Refusal;
-pub use splicing::splice;
 
 // A received word kept with the odd sums of it, place by place.
 #[repr(C)]

@@ -3,10 +3,10 @@ use mathlib.Core.Path.{_≡_, refl}
 use lib.ListN.{length}
 use native.Mathlib.Omega.{arith}
 use Rattle.field.proofs.Range.{sizes}
-use Rattle.kept.proofs.SpliceLaws.{spliced-parts}
+use Rattle.splice.proofs.SpliceLaws.{spliced-parts}
 use borrow.Author.Needs.{needs}
-use Rattle.kept.proofs.splicing.spliced.Statement.{statement}
-use Rattle.kept.proofs.splicing.spliced.Tie as tie
+use Rattle.splice.proofs.spliced.Statement.{statement}
+use Rattle.splice.proofs.spliced.Tie as tie
 
 tables-requires : tie.Need-tables-requires
 tables-requires c κs = search needs
@@ -26,8 +26,8 @@ slice-aggregate-splice-stretch-4 c = search needs
 splice-stretch-requires : tie.Need-splice-stretch-requires
 splice-stretch-requires c κs =
     let s = c .before .before .before .before .before .before .before .before .before .before in
-    let b : length (s .args .kept .bits) ≡ 1023 = search needs in
-    let l : length (s .args .kept .sums) ≡ 255 = search needs in
+    let b : length (s .args .stored .bits) ≡ 1023 = search needs in
+    let l : length (s .args .stored .sums) ≡ 255 = search needs in
     let k = sizes (s .pre .0 .listed) in
     (c .before .before .before .before .before .before .tables .ensures, s .pre .1, omega (arith, b), omega (arith, l, s .pre .0 .most))
 

@@ -1,9 +1,9 @@
 -- The place is written, and added to the sums, where it holds something else.
 use mathlib.Core.Path.{refl}
-use Rattle.kept.proofs.SpliceLaws.{place-kept}
+use Rattle.splice.proofs.SpliceLaws.{place-kept}
 use borrow.Author.Needs.{needs}
-use Rattle.kept.proofs.splicing.splice_place.Statement.{statement}
-use Rattle.kept.proofs.splicing.splice_place.Tie as tie
+use Rattle.splice.proofs.splice_place.Statement.{statement}
+use Rattle.splice.proofs.splice_place.Tie as tie
 
 slice-read-old : tie.Need-slice-read-old
 slice-read-old c = search needs

@@ -6,59 +6,58 @@ ghost use lib.ListN.{length};
 ghost use Rattle.field.specs.Power.{nOf};
 ghost use Rattle.field.specs.Tables.{Tables};
 ghost use Rattle.codes.specs.Look.{Accepted};
 ghost use Rattle.kept.specs.declared.Outcome.the-variants.{Refused};
-ghost use Rattle.kept.specs.Splice.{Splices, Spliced};
-ghost use Rattle.kept.specs.Work.{PlaceSpliced, StretchSpliced};
-use crate::Answer;
-use crate::Kept;
-use crate::Outcome;
-use crate::checking;
+ghost use Rattle.splice.specs.Splice.{Splices, Spliced};
+ghost use Rattle.splice.specs.Work.{PlaceSpliced, StretchSpliced};
 use codes::Look;
+use kept::Answer;
+use kept::Kept;
+use kept::Outcome;
 use sheet::Refusal;
 
-pub fn splice(kept: Kept, start: usize, stretch: &[u8]) -> Answer
-    ensures { λ r. ⌜ Splices kept start (now (stretch .entry)) r ⌝ }
+pub fn splice(stored: Kept, start: usize, stretch: &[u8]) -> Answer
+    ensures { λ r. ⌜ Splices stored start (now (stretch .entry)) r ⌝ }
 {
-    let look = codes::look_up(kept.m, kept.t);
+    let look = codes::look_up(stored.m, stored.t);
     match look {
-        Look::Row { row: _, k: _ } => splice_listed(kept, start, stretch),
-        Look::Refused(r) => refused(r, kept),
+        Look::Row { row: _, k: _ } => splice_listed(stored, start, stretch),
+        Look::Refused(r) => refused(r, stored),
     }
 }
 
 // The same for a listed code.
-fn splice_listed(kept: Kept, start: usize, stretch: &[u8]) -> Answer
-    requires { ⌜ Accepted (kept .m) (kept .t) ⌝ }
-    ensures { λ r. ⌜ Splices kept start (now (stretch .entry)) r ⌝ }
+fn splice_listed(stored: Kept, start: usize, stretch: &[u8]) -> Answer
+    requires { ⌜ Accepted (stored .m) (stored .t) ⌝ }
+    ensures { λ r. ⌜ Splices stored start (now (stretch .entry)) r ⌝ }
 {
-    let n = field::n_of(kept.m);
-    let wrong = checking::is_bad(kept, n);
+    let n = field::n_of(stored.m);
+    let wrong = kept::is_bad(stored, n);
     let past = bits::runs_past(start, stretch.len(), n);
     let bad = bits::has_bad_bit(stretch);
     if wrong {
-        return refused(Refusal::RecordContents, kept);
+        return refused(Refusal::RecordContents, stored);
     }
     if past {
-        return refused(Refusal::StretchEnd, kept);
+        return refused(Refusal::StretchEnd, stored);
     }
     if bad {
-        return refused(Refusal::BitAboveOne, kept);
+        return refused(Refusal::BitAboveOne, stored);
     }
     Answer {
         outcome: Outcome::Done,
-        record: spliced(kept, start, stretch),
+        record: spliced(stored, start, stretch),
     }
 }
 
 // Past the checks: the two tables for this m, and the work.
-fn spliced(kept: Kept, start: usize, stretch: &[u8]) -> Kept
-    requires { ⌜ Accepted (kept .m) (kept .t) × (start + length (now stretch) ≤ nOf (kept .m)) ⌝ }
-    ensures { λ r. ⌜ Spliced kept start (now (stretch .entry)) r ⌝ }
+fn spliced(stored: Kept, start: usize, stretch: &[u8]) -> Kept
+    requires { ⌜ Accepted (stored .m) (stored .t) × (start + length (now stretch) ≤ nOf (stored .m)) ⌝ }
+    ensures { λ r. ⌜ Spliced stored start (now (stretch .entry)) r ⌝ }
 {
-    let m = kept.m;
-    let t = kept.t;
-    let mut bits = kept.bits;
-    let mut sums = kept.sums;
+    let m = stored.m;
+    let t = stored.t;
+    let mut bits = stored.bits;
+    let mut sums = stored.sums;
     let tables = field::tables(m);
     let powers = tables.powers;
     let logs = tables.logs;
@@ -109,11 +108,11 @@ fn splice_place(
 }
 
 // A refused Splice gives back the record it got.
-fn refused(r: Refusal, kept: Kept) -> Answer
-    ensures { λ a. ⌜ (a .outcome ≡ Refused r) × (a .record ≡ kept) ⌝ }
+fn refused(r: Refusal, stored: Kept) -> Answer
+    ensures { λ a. ⌜ (a .outcome ≡ Refused r) × (a .record ≡ stored) ⌝ }
 {
     Answer {
         outcome: Outcome::Refused(r),
-        record: kept,
+        record: stored,
     }
 }

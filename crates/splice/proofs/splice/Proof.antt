@@ -1,10 +1,10 @@
 -- What looking up tells decides.
 use mathlib.Core.Path.{_∙_, sym}
 use Rattle.codes.proofs.LookLaws.{looked, accepted}
-use Rattle.kept.proofs.SpliceLaws.{splice-early}
+use Rattle.splice.proofs.SpliceLaws.{splice-early}
 use borrow.Author.Needs.{needs}
-use Rattle.kept.proofs.splicing.splice.Statement.{statement}
-use Rattle.kept.proofs.splicing.splice.Tie as tie
+use Rattle.splice.proofs.splice.Statement.{statement}
+use Rattle.splice.proofs.splice.Tie as tie
 
 look-up-requires : tie.Need-look-up-requires
 look-up-requires c κs = search needs

@@ -4,10 +4,10 @@ use Prim.Native.Nat.{_+_}
 use native.Mathlib.Omega.{arith}
 use borrow.Author.Tests.{ltb-false}
 use lib.ListN.{length}
-use Rattle.kept.proofs.SpliceLaws.{splice-record, splice-end, splice-bit, splice-done}
+use Rattle.splice.proofs.SpliceLaws.{splice-record, splice-end, splice-bit, splice-done}
 use borrow.Author.Needs.{needs}
-use Rattle.kept.proofs.splicing.splice_listed.Statement.{statement}
-use Rattle.kept.proofs.splicing.splice_listed.Tie as tie
+use Rattle.splice.proofs.splice_listed.Statement.{statement}
+use Rattle.splice.proofs.splice_listed.Tie as tie
 
 n-of-requires : tie.Need-n-of-requires
 n-of-requires c κs = search needs

@@ -1,11 +1,11 @@
 -- The loop keeps: the first i places of the stretch are put in, and the sums are brought up to date.
-use Rattle.kept.proofs.SpliceLaws.{stretch-start, stretch-long, stretch-next, stretch-done}
+use Rattle.splice.proofs.SpliceLaws.{stretch-start, stretch-long, stretch-next, stretch-done}
 use Prim.Native.Nat.{_-_}
 use native.Mathlib.Omega.{arith}
 use lib.ListN.{length}
-use Rattle.kept.specs.Work.{StretchSpliced}
-use Rattle.kept.proofs.splicing.splice_stretch.Statement.{statement}
-use Rattle.kept.proofs.splicing.splice_stretch.Tie as tie
+use Rattle.splice.specs.Work.{StretchSpliced}
+use Rattle.splice.proofs.splice_stretch.Statement.{statement}
+use Rattle.splice.proofs.splice_stretch.Tie as tie
 
 abbrev Inv-loop : tie.InvT-loop
 Inv-loop m powers logs t start stretch bits₀ sums₀ i₀ bits sums i = StretchSpliced m t start stretch bits₀ sums₀ bits sums i

@@ -27,12 +27,12 @@ use Rattle.codes.specs.Sums.{sumOver}
 use Rattle.codes.proofs.SumLaws.{sumOver-nil}
 use Rattle.sums.proofs.SumSteps.{sumOver-snoc}
 use Rattle.sheet.proofs.NumberLaws.{refusal-not}
 use Rattle.kept.specs.declared.Kept.{Kept}
 use Rattle.kept.specs.declared.Answer.{Answer}
 use Rattle.kept.specs.declared.Outcome.the-variants.{Done, Refused}
 use Rattle.kept.specs.Record.{outcomeNumber, badRecord}
-use Rattle.kept.specs.Splice.{Splices, Spliced, spliceRefusal}
-use Rattle.kept.specs.Work.{PlaceSpliced, StretchSpliced, plusPlaces}
+use Rattle.splice.specs.Splice.{Splices, Spliced, spliceRefusal}
+use Rattle.splice.specs.Work.{PlaceSpliced, StretchSpliced, plusPlaces}
 
 -- the place holds b already
 pub place-kept : {m t b p : ℕ} (bits sums : List ℕ) → getD bits p 0 ≡ b → PlaceSpliced m t b p bits sums bits sums
