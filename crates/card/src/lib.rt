@@ -9,9 +9,9 @@ use codec::Encoded;
 use decode::Decoded;
 use frame::Making;
 use frame::ReadFrame;
-use frame::Reading;
 use kept::Kept;
 use kept::Outcome;
+use layout::Reading;
 
 // The sheet's number, 0 where nothing is refused, and n and k.
 #[repr(C)]

@@ -24,7 +24,7 @@ use Rattle.kept.specs.declared.Answer.{Answer}
 use Rattle.kept.specs.Open.{Opens, openRefusal}
 use Rattle.splice.specs.Splice.{Splices, spliceRefusal}
 use Rattle.decode_kept.specs.DecodeKept.{DecodesKept}
-use Rattle.frame.specs.declared.places.Reading.{Reading}
+use Rattle.layout.specs.declared.message.Reading.{Reading}
 use Rattle.frame.specs.declared.making.Making.{Making}
 use Rattle.frame.specs.declared.reading.ReadFrame.{ReadFrame}
 use Rattle.frame.specs.Make.{Makes}

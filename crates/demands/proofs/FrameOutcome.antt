@@ -11,23 +11,24 @@ use Rattle.sheet.proofs.NumberLaws.{number-positive, number-tells}
 use Rattle.bits.specs.Differences.{distance}
 use Rattle.bits.proofs.DistanceLaws.{distance-comm, distance-self}
 use Rattle.codes.specs.Sums.{CodeWord}
-use Rattle.frame.specs.declared.places.Reading.{Reading}
+use Rattle.layout.specs.declared.message.Reading.{Reading}
+use Rattle.layout.specs.Frame.{sentBit, wordOf, Lawful, messageBit, leadRefusal, Carries}
+use Rattle.layout.proofs.DigitLaws.{same-digits}
+use Rattle.layout.proofs.SentLaws.{sent-shifted}
+use Rattle.layout.proofs.PackLaws.{word-long, word-bits, word-at}
+use Rattle.layout.proofs.MessageLaws.{message-counter, message-poll, message-house, message-lead, message-at}
+use Rattle.layout.proofs.FieldLaws.{lead-none}
+use Rattle.layout.proofs.ReadingLaws.{reading-tells}
 use Rattle.frame.specs.declared.making.Making.{Making}
 use Rattle.frame.specs.declared.making.Making.the-variants.{Done, Refused}
 use Rattle.frame.specs.declared.reading.ReadFrame.{ReadFrame}
 use Rattle.frame.specs.declared.reading.ReadFrame.the-variants.{Read}
 use Rattle.frame.specs.declared.reading.ReadFrame.the-variants.{Refused as ReadRefused}
-use Rattle.frame.specs.Frame.{sentBit, wordOf, Lawful, messageBit}
 use Rattle.frame.specs.Make.{Made, Makes, makeRefusal, makingNumber}
-use Rattle.frame.specs.Read.{Reads, ReadsWord, ReadsNear, Carries, frameRefusal, leadRefusal, readNumber, readReading, readWrong}
-use Rattle.line.specs.Line.{Writes}
-use Rattle.frame.proofs.DigitLaws.{same-digits}
-use Rattle.frame.proofs.SentLaws.{sent-shifted}
-use Rattle.frame.proofs.PackLaws.{word-long, word-bits, word-at}
-use Rattle.frame.proofs.MessageLaws.{message-counter, message-poll, message-house, message-lead, message-at}
+use Rattle.frame.specs.Read.{Reads, ReadsWord, ReadsNear, frameRefusal, readNumber, readReading, readWrong}
 use Rattle.frame.proofs.CodeLaws.{listed}
-use Rattle.frame.proofs.ReadLaws.{lead-none, frame-passes}
-use Rattle.frame.proofs.ReadingLaws.{reading-tells}
+use Rattle.frame.proofs.ReadLaws.{frame-passes}
+use Rattle.line.specs.Line.{Writes}
 use Rattle.demands.proofs.OneOutcome.{encoding-one}
 use Rattle.demands.proofs.Near.{near-one}
 

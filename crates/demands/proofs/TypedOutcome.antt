@@ -2,11 +2,11 @@
 use mathlib.Core.Path.{_≡_, refl, ap}
 use mathlib.Core.List.{List}
 use Prim.Native.Nat.{ℕ}
-use Rattle.frame.specs.declared.places.Reading.{Reading}
+use Rattle.layout.specs.declared.message.Reading.{Reading}
+use Rattle.layout.specs.Frame.{Lawful}
 use Rattle.frame.specs.declared.making.Making.the-variants.{Done}
 use Rattle.frame.specs.declared.reading.ReadFrame.{ReadFrame}
 use Rattle.frame.specs.declared.reading.ReadFrame.the-variants.{Read}
-use Rattle.frame.specs.Frame.{Lawful}
 use Rattle.frame.specs.Make.{Makes}
 use Rattle.frame.specs.Read.{Reads}
 use Rattle.typed.specs.declared.Typed.{Typed}

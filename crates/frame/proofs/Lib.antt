@@ -1,9 +1,3 @@
-pub mod DigitLaws
-pub mod SentLaws
-pub mod FillLaws
-pub mod PackLaws
-pub mod MessageLaws
 pub mod CodeLaws
 pub mod MakeLaws
 pub mod ReadLaws
-pub mod ReadingLaws

@@ -10,12 +10,12 @@ use Rattle.bits.specs.Bits.{AreBits}
 use Rattle.codec.specs.declared.encoding.Encoded.{Encoded}
 use Rattle.codes.specs.Encoding.{Encoding}
 use Rattle.codec.specs.Encode.{Encodes}
-use Rattle.frame.specs.Frame.{messageOf}
+use Rattle.layout.specs.declared.message.Reading.{Reading}
+use Rattle.layout.specs.Frame.{messageOf}
+use Rattle.layout.specs.Work.{Packed}
+use Rattle.layout.proofs.MessageLaws.{message-bits, message-long}
 use Rattle.frame.specs.Make.{Made, Makes, makeRefusal}
-use Rattle.frame.specs.Work.{Packed}
-use Rattle.frame.specs.declared.places.Reading.{Reading}
 use Rattle.frame.specs.declared.making.Making.the-variants.{Done, Refused}
-use Rattle.frame.proofs.MessageLaws.{message-bits, message-long}
 use Rattle.frame.proofs.CodeLaws.{is-99, encode-passes}
 
 module _ (reading : Reading) {message lent word : List ℕ} {answer : Encoded} (m : message ≡ messageOf reading) (l : length lent ≡ 255) (e : Encodes 8 23 message lent answer word) where

@@ -1,4 +1,2 @@
-pub mod Frame
 pub mod Make
 pub mod Read
-pub mod Work

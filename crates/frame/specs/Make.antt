@@ -8,8 +8,8 @@ use lib.Dec.{eqb}
 use lib.ListN.{length, getD}
 use Rattle.sheet.specs.Number.{numberOf, refuseIf}
 use Rattle.codes.specs.Encoding.{Encoding}
-use Rattle.frame.specs.Frame.{sentBit, wordOf, messageOf}
-use Rattle.frame.specs.declared.places.Reading.{Reading}
+use Rattle.layout.specs.declared.message.Reading.{Reading}
+use Rattle.layout.specs.Frame.{sentBit, wordOf, messageOf}
 use Rattle.frame.specs.declared.making.Making.{Making}
 use Rattle.frame.specs.declared.making.Making.the-variants.{Done, Refused}
 

@@ -3,25 +3,21 @@ use mathlib.Core.Path.{_≡_}
 use mathlib.Core.Bool.{not}
 use mathlib.Core.List.{List}
 use mathlib.Core.Logic.{_≢_}
-use Prim.Native.Nat.{ℕ, _+_, _≤_, _<_}
+use Prim.Native.Nat.{ℕ, _≤_}
 use lib.Dec.{eqb}
-use lib.ListN.{length, getD}
+use lib.ListN.{length}
 use Rattle.sheet.specs.Number.{numberOf, refuseIf}
 use Rattle.bits.specs.Differences.{distance}
 use Rattle.codes.specs.Sums.{CodeWord}
 use Rattle.decode.specs.Decode.{Far}
-use Rattle.frame.specs.Frame.{sentBit, wordOf, Lawful, messageBit}
-use Rattle.frame.specs.declared.places.Reading.{Reading}
+use Rattle.layout.specs.declared.message.Reading.{Reading}
+use Rattle.layout.specs.Frame.{sentBit, wordOf, leadRefusal, Carries}
 use Rattle.frame.specs.declared.reading.ReadFrame.{ReadFrame}
 use Rattle.frame.specs.declared.reading.ReadFrame.the-variants.{Read, Refused}
 
 -- the checks before 6
 unfoldable pub frameRefusal : List ℕ → ℕ
 frameRefusal frame = refuseIf (not (eqb (length frame) 32)) 9 (refuseIf (not (eqb (sentBit frame 255) 0)) 10 0)
-
--- the check after 6: message places 96 to 98, all bits, hold 0
-unfoldable pub leadRefusal : List ℕ → ℕ
-leadRefusal word = refuseIf (not (eqb (getD word 252 0 + getD word 253 0 + getD word 254 0) 0)) 11 0
 
 -- the number and the values of an answer: a refusal gives zeros beside its number
 abbrev pub readNumber : ReadFrame → ℕ
@@ -35,11 +31,6 @@ readReading (Refused r) = record { house = 0; poll = 0; counter = 0 }
 abbrev pub readWrong : ReadFrame → ℕ
 readWrong (Read reading wrong) = wrong
 readWrong (Refused r) = 0
-
--- the message in the top 99 places of a word is that of the reading
-pub record Carries (reading : Reading) (word : List ℕ) : Type 0 where
-  pub lawful : Lawful reading
-  pub message : (i : ℕ) → i < 99 → getD word (156 + i) 0 ≡ messageBit reading i
 
 -- what a mended word says that had so many wrong places
 pub record ReadsWord (word : List ℕ) (count : ℕ) (answer : ReadFrame) : Type 0 where

@@ -12,7 +12,7 @@ use Rattle.sheet.specs.declared.Refusal.{Refusal}
 use Rattle.sheet.specs.Number.{numberOf}
 use Rattle.line.specs.Line.{digitsUpTo, decimal, readText, refusedText, space, newline, readLine, refusedLine, Writes}
 use Rattle.line.specs.Work.{Put, PutField}
-use Rattle.frame.specs.declared.places.Reading.{Reading}
+use Rattle.layout.specs.declared.message.Reading.{Reading}
 
 up-to-small : (more n : ℕ) → n < 10 → digitsUpTo (suc more) n ≡ (48 + n) ∷ []
 unfolding digitsUpTo

@@ -7,7 +7,7 @@ use lib.Dec.{ltb}
 use lib.ListN.{length, drop}
 use Rattle.sheet.specs.declared.Refusal.{Refusal}
 use Rattle.sheet.specs.Number.{numberOf}
-use Rattle.frame.specs.declared.places.Reading.{Reading}
+use Rattle.layout.specs.declared.message.Reading.{Reading}
 use Rattle.frame.specs.declared.reading.ReadFrame.{ReadFrame}
 use Rattle.frame.specs.declared.reading.ReadFrame.the-variants.{Read, Refused}
 

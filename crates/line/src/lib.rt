@@ -5,7 +5,7 @@ ghost use lib.ListN.{length};
 ghost use Rattle.line.specs.Line.{decimal, readLine, refusedLine, lineOf, Writes};
 ghost use Rattle.line.specs.Work.{Put, PutField};
 use frame::ReadFrame;
-use frame::Reading;
+use layout::Reading;
 use sheet::Refusal;
 
 // The line of frame `number`; any line fits into 128 bytes. Gives its length.

@@ -6,9 +6,9 @@ use native.Mathlib.Decide.{decLt, decLe}
 use native.Mathlib.Omega.{arith}
 use lib.ListN.{length, take, length-append}
 use lib.Seq.{length-take-le, take-all}
-use Rattle.frame.specs.declared.places.Reading.{Reading}
-use Rattle.frame.specs.Frame.{Lawful}
-use Rattle.frame.proofs.ReadingLaws.{reading-tells}
+use Rattle.layout.specs.declared.message.Reading.{Reading}
+use Rattle.layout.specs.Frame.{Lawful}
+use Rattle.layout.proofs.ReadingLaws.{reading-tells}
 use Rattle.line.specs.Line.{decimal, space}
 use Rattle.line.proofs.LineLaws.{decimal-small, decimal-more, decimal-fits}
 use Rattle.typed.specs.declared.Typed.{Typed}

@@ -3,7 +3,7 @@
 ghost use Prim.Native.Nat.{_+_, _≤_};
 ghost use Rattle.typed.specs.Says.{Answers};
 ghost use Rattle.typed.specs.Work.{BlankAt, AnswersPoll, AnswersCounter, AnswersNumber, AnswersSpelled, AnswersDigit};
-use frame::Reading;
+use layout::Reading;
 
 pub enum Typed {
     Said(Reading),

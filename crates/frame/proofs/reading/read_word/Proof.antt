@@ -1,6 +1,7 @@
 -- The lead, and then the fields.
 use borrow.Author.Needs.{needs}
-use Rattle.frame.proofs.ReadLaws.{lead-right, lead-wrong, word-refused, word-read}
+use Rattle.layout.proofs.FieldLaws.{lead-right, lead-wrong}
+use Rattle.frame.proofs.ReadLaws.{word-refused, word-read}
 use Rattle.frame.proofs.reading.read_word.Statement.{statement}
 use Rattle.frame.proofs.reading.read_word.Tie as tie
 

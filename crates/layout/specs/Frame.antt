@@ -1,0 +1,46 @@
+-- The reading frame: "Sent number q, 0 to 254, is place 254 - q; it stands in byte q/8 with weight 128 shifted right by q mod 8. Sent number 255 is a pad, 0."
+use mathlib.Core.Path.{_≡_}
+use mathlib.Core.Bool.{cond, not}
+use mathlib.Core.List.{List}
+use Prim.Native.Nat.{ℕ, _+_, _-_, _/_, _%_, _^_, _<_}
+use lib.Dec.{ltb, eqb}
+use lib.ListN.{getD}
+use Rattle.sheet.specs.Number.{refuseIf}
+use Rattle.bits.specs.Bits.{listOf}
+use Rattle.layout.specs.declared.message.Reading.{Reading}
+
+-- the bit of a frame with sent number q
+unfoldable pub sentBit : List ℕ → ℕ → ℕ
+sentBit frame q = getD frame (q / 8) 0 / (128 / 2 ^ (q % 8)) % 2
+
+unfoldable pub placeBit : List ℕ → ℕ → ℕ
+placeBit frame p = sentBit frame (254 - p)
+
+-- the word of a frame, one bit to an entry
+unfoldable pub wordOf : List ℕ → List ℕ
+wordOf frame = listOf 255 (placeBit frame)
+
+-- every value of the three fields is lawful: 16, 16 and 64 bits
+pub record Lawful (reading : Reading) : Type 0 where
+  pub house : reading .house < 2 ^ 16
+  pub poll : reading .poll < 2 ^ 16
+  pub counter : reading .counter < 2 ^ 64
+
+-- "message places 98 to 96 are the lead, 95 to 80 the house, 79 to 64 the poll, 63 to 0 the counter"
+unfoldable pub messageBit : Reading → ℕ → ℕ
+messageBit reading i =
+    cond (ltb i 64) (reading .counter / 2 ^ i % 2)
+    (cond (ltb i 80) (reading .poll / 2 ^ (i - 64) % 2)
+    (cond (ltb i 96) (reading .house / 2 ^ (i - 80) % 2) 0))
+
+unfoldable pub messageOf : Reading → List ℕ
+messageOf reading = listOf 99 (messageBit reading)
+
+-- the message in the top 99 places of a word is that of the reading
+pub record Carries (reading : Reading) (word : List ℕ) : Type 0 where
+  pub lawful : Lawful reading
+  pub message : (i : ℕ) → i < 99 → getD word (156 + i) 0 ≡ messageBit reading i
+
+-- the check that reading a frame makes after 6: message places 96 to 98, all bits, hold 0
+unfoldable pub leadRefusal : List ℕ → ℕ
+leadRefusal word = refuseIf (not (eqb (getD word 252 0 + getD word 253 0 + getD word 254 0) 0)) 11 0
