@@ -78,21 +78,13 @@ pub fn fill_logs(m: usize, powers: &[u16], logs: &mut [u16])
     }
 }
 
-pub struct FieldTables {
-    pub powers: [u16; 2046],
-    pub logs: [u16; 1024],
-}
-
-// Both tables of this m.
-pub fn tables(m: usize) -> FieldTables
-    requires { ⌜ Listed m ⌝ }
-    ensures { λ r. ⌜ Tables m (r .powers) (r .logs) ⌝ }
+// Both tables of this m, in room for every m.
+pub fn fill_tables(m: usize, powers: &mut [u16], logs: &mut [u16])
+    requires { ⌜ Listed m × (2046 ≡ length (now powers)) × (1024 ≡ length (now logs)) ⌝ }
+    ensures { λ _. ⌜ Tables m (now (powers .exit)) (now (logs .exit)) ⌝ }
 {
-    let mut powers = powers_space();
-    let mut logs = logs_space();
-    fill_powers(m, &mut powers);
-    fill_logs(m, &powers, &mut logs);
-    FieldTables { powers, logs }
+    fill_powers(m, powers);
+    fill_logs(m, powers, logs);
 }
 
 // The product by the two tables: logarithms add up, and 0 has none.

@@ -67,9 +67,9 @@ fn sums_line(powers: &[u16], logs: &[u16])
 }
 
 fn gf16() {
-    let tables = field::tables(4);
-    let powers = tables.powers;
-    let logs = tables.logs;
+    let mut powers = field::powers_space();
+    let mut logs = field::logs_space();
+    field::fill_tables(4, &mut powers, &mut logs);
     powers_line(&powers, &logs);
     roots_line(&powers, &logs);
     sums_line(&powers, &logs);
@@ -95,9 +95,9 @@ fn values_line(m: usize, powers: &[u16], logs: &[u16])
 fn field_line(m: usize)
     requires { ⌜ Listed m ⌝ }
 {
-    let tables = field::tables(m);
-    let powers = tables.powers;
-    let logs = tables.logs;
+    let mut powers = field::powers_space();
+    let mut logs = field::logs_space();
+    field::fill_tables(m, &mut powers, &mut logs);
     values_line(m, &powers, &logs);
 }
 

@@ -14,9 +14,9 @@ pub fn odd_sums(m: usize, t: usize, word: &[u8]) -> [u16; 255]
     requires { ⌜ Listed m × AreBits (now word) × (t ≤ 255) ⌝ }
     ensures { λ r. ⌜ OddSums m t (now (word .entry)) r ⌝ }
 {
-    let tables = field::tables(m);
-    let powers = tables.powers;
-    let logs = tables.logs;
+    let mut powers = field::powers_space();
+    let mut logs = field::logs_space();
+    field::fill_tables(m, &mut powers, &mut logs);
     sums::odd_sums(m, t, &powers, &logs, word)
 }
 
@@ -25,9 +25,9 @@ pub fn vanish(m: usize, t: usize, word: &[u8]) -> bool
     requires { ⌜ Listed m × AreBits (now word) × (t ≤ 255) ⌝ }
     ensures { λ r. ⌜ Vanish m t (now (word .entry)) r ⌝ }
 {
-    let tables = field::tables(m);
-    let powers = tables.powers;
-    let logs = tables.logs;
+    let mut powers = field::powers_space();
+    let mut logs = field::logs_space();
+    field::fill_tables(m, &mut powers, &mut logs);
     sums::vanish(m, t, &powers, &logs, word)
 }
 
@@ -36,9 +36,9 @@ pub fn of_word(m: usize, t: usize, word: &[u8]) -> Search
     requires { ⌜ Listed m × AreBits (now word) × (t ≤ 255) ⌝ }
     ensures { λ r. ⌜ WordSearched m t (now (word .entry)) r ⌝ }
 {
-    let tables = field::tables(m);
-    let powers = tables.powers;
-    let logs = tables.logs;
+    let mut powers = field::powers_space();
+    let mut logs = field::logs_space();
+    field::fill_tables(m, &mut powers, &mut logs);
     let sums = sums::odd_sums(m, t, &powers, &logs, word);
     locate::locate(m, t, &powers, &logs, &sums)
 }
@@ -48,8 +48,8 @@ pub fn of_sums(m: usize, t: usize, sums: &[u16]) -> Search
     requires { ⌜ Listed m × (t ≤ 255) × (t ≤ length (now sums)) × ((i : ℕ) → i < t → getD (now sums) i 0 < 2 ^ m) ⌝ }
     ensures { λ r. ⌜ Searched m t (now (sums .entry)) r ⌝ }
 {
-    let tables = field::tables(m);
-    let powers = tables.powers;
-    let logs = tables.logs;
+    let mut powers = field::powers_space();
+    let mut logs = field::logs_space();
+    field::fill_tables(m, &mut powers, &mut logs);
     locate::locate(m, t, &powers, &logs, sums)
 }

@@ -58,9 +58,9 @@ fn spliced(stored: Kept, start: usize, stretch: &[u8]) -> Kept
     let t = stored.t;
     let mut bits = stored.bits;
     let mut sums = stored.sums;
-    let tables = field::tables(m);
-    let powers = tables.powers;
-    let logs = tables.logs;
+    let mut powers = field::powers_space();
+    let mut logs = field::logs_space();
+    field::fill_tables(m, &mut powers, &mut logs);
     splice_stretch(m, &powers, &logs, t, start, stretch, &mut bits, &mut sums);
     Kept { m, t, bits, sums }
 }

@@ -8,8 +8,20 @@ use borrow.Author.Needs.{needs}
 use Rattle.splice.proofs.spliced.Statement.{statement}
 use Rattle.splice.proofs.spliced.Tie as tie
 
-tables-requires : tie.Need-tables-requires
-tables-requires c κs = search needs
+powers-space-requires : tie.Need-powers-space-requires
+powers-space-requires c κs = search needs
+
+logs-space-requires : tie.Need-logs-space-requires
+logs-space-requires c κs = search needs
+
+slice-aggregate-fill-tables : tie.Need-slice-aggregate-fill-tables
+slice-aggregate-fill-tables c = search needs
+
+slice-aggregate-fill-tables-2 : tie.Need-slice-aggregate-fill-tables-2
+slice-aggregate-fill-tables-2 c = search needs
+
+fill-tables-requires : tie.Need-fill-tables-requires
+fill-tables-requires c κs = search needs
 
 slice-aggregate-splice-stretch : tie.Need-slice-aggregate-splice-stretch
 slice-aggregate-splice-stretch c = search needs
@@ -25,11 +37,11 @@ slice-aggregate-splice-stretch-4 c = search needs
 
 splice-stretch-requires : tie.Need-splice-stretch-requires
 splice-stretch-requires c κs =
-    let s = c .before .before .before .before .before .before .before .before .before .before in
+    let s = c .before .before .before .before .before .before .before .before .before .before .before .before .before .before in
     let b : length (s .args .stored .bits) ≡ 1023 = search needs in
     let l : length (s .args .stored .sums) ≡ 255 = search needs in
     let k = sizes (s .pre .0 .listed) in
-    (c .before .before .before .before .before .before .tables .ensures, s .pre .1, omega (arith, b), omega (arith, l, s .pre .0 .most))
+    (c .before .before .before .before .before .before .fill-tables .ensures, s .pre .1, omega (arith, b), omega (arith, l, s .pre .0 .most))
 
 returns : tie.Need-returns
 returns c = spliced-parts refl refl (c .before .before .splice-stretch .ensures)
@@ -38,7 +50,11 @@ pub spliced-spec : {M : Type 1} → statement M
 spliced-spec =
     tie.close
     (tie.spec
-    tables-requires
+    powers-space-requires
+    logs-space-requires
+    slice-aggregate-fill-tables
+    slice-aggregate-fill-tables-2
+    fill-tables-requires
     slice-aggregate-splice-stretch
     slice-aggregate-splice-stretch-2
     slice-aggregate-splice-stretch-3
