@@ -10,13 +10,14 @@ fn main() {
         "keeping" => keeping::text().into_bytes(),
         "mending" => mending::text().into_bytes(),
         "trials" => trials::text().into_bytes(),
-        "night" => night::frames(),
+        "night" => night::frames(1),
+        "nights" => night::frames(6),
         "noise" => noise::text().into_bytes(),
         "cases" => cases::text(&standard_input()).into_bytes(),
         "making" => frames_of_lines(),
         "listing" => Link::new().listing(&standard_input()).into_bytes(),
         _ => {
-            eprintln!("usage: second keeping|mending|trials|night|noise, second cases < TEXT, second listing < FRAMES, or second making < LINES");
+            eprintln!("usage: second keeping|mending|trials|night|nights|noise, second cases < TEXT, second listing < FRAMES, or second making < LINES");
             std::process::exit(2);
         }
     };

@@ -1,4 +1,4 @@
-//! A night of made-up readings as they might come in: most frames clean, some with a few wrong bits, some beyond mending.
+//! Nights of made-up readings as they might come in: most frames clean, some with a few wrong bits, some beyond mending.
 
 use crate::frames::{Link, Reading, FRAME_BYTES};
 use crate::made_up::MadeUp;
@@ -6,12 +6,12 @@ use crate::made_up::MadeUp;
 const HOUSES: u16 = 40;
 const POLLS: u16 = 5;
 
-/// The frames of all houses, poll by poll, and a piece of a last one.
-pub fn frames() -> Vec<u8> {
+/// The frames of all houses, poll by poll, for so many nights, and a piece of a last one.
+pub fn frames(nights: u16) -> Vec<u8> {
     let link = Link::new();
     let mut made_up = MadeUp::new(20261115);
     let mut bytes = Vec::new();
-    for poll in 1..=POLLS {
+    for poll in 1..=nights * POLLS {
         for house in 0..HOUSES {
             bytes.extend(frame(&link, house, poll, &mut made_up));
         }
