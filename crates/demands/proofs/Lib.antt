@@ -6,6 +6,7 @@ pub mod KeptOutcome
 pub mod Demand3
 pub mod FrameOutcome
 pub mod TypedOutcome
+pub mod Written
 pub mod NoSet
 pub mod Cases
 pub mod CardOutcome

@@ -12,7 +12,7 @@ use Rattle.frame.specs.Read.{Reads}
 use Rattle.typed.specs.declared.Typed.{Typed}
 use Rattle.typed.specs.declared.Typed.the-variants.{Said, Nothing}
 use Rattle.typed.specs.Says.{Says, Answers}
-use Rattle.typed.proofs.Written.{says-one}
+use Rattle.typed.proofs.LineLaws.{says-one}
 use Rattle.demands.proofs.FrameOutcome.{made-reads-back}
 
 pub typed-one : (line : List ℕ) (x y : Typed) → Answers line x → Answers line y → x ≡ y

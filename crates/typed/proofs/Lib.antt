@@ -1,3 +1,3 @@
 pub mod SpelledLaws
 pub mod SplitLaws
-pub mod Written
+pub mod LineLaws

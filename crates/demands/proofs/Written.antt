@@ -1,31 +1,19 @@
--- A line says one reading at most; what is written with decimal numbers is read as it was.
-use mathlib.Core.Path.{_≡_, _∙_, sym, ap, subst}
+-- What is written with decimal numbers, as the listing writes them, is read as it was.
+use mathlib.Core.Path.{_≡_, ap, subst}
 use mathlib.Core.List.{List, [], _∷_, _++_, append-assoc}
 use Prim.Native.Nat.{ℕ, zero, suc, _+_, _-_, _*_, _/_, _%_, _^_, _≤_, _<_}
-use native.Mathlib.Decide.{decLt, decLe}
+use native.Mathlib.Decide.{decLt}
 use native.Mathlib.Omega.{arith}
-use lib.ListN.{length, take, length-append}
-use lib.Seq.{length-take-le, take-all}
+use lib.ListN.{length, length-append}
 use Rattle.layout.specs.declared.message.Reading.{Reading}
 use Rattle.layout.specs.Frame.{Lawful}
-use Rattle.layout.proofs.ReadingLaws.{reading-tells}
 use Rattle.line.specs.Line.{decimal, space}
 use Rattle.line.proofs.LineLaws.{decimal-small, decimal-more, decimal-fits}
 use Rattle.typed.specs.declared.Typed.{Typed}
 use Rattle.typed.specs.declared.Typed.the-variants.{Said, Nothing}
-use Rattle.typed.specs.Says.{Digits, valueFrom, Number, SaysPoll, SaysCounter, Says, Answers}
+use Rattle.typed.specs.Says.{Digits, valueFrom, Number, SaysPoll, Says, Answers}
 use Rattle.typed.proofs.SpelledLaws.{value-nil, value-cons, value-last, digits-last}
-use Rattle.typed.proofs.SplitLaws.{same-parts}
-
--- one reading at most
-
-pub says-one : {line : List ℕ} (x y : Reading) → Says x line → Says y line → x ≡ y
-says-one x y p q =
-    let house = same-parts p q in
-    let q₁ = subst (SaysPoll y) (sym (house .1)) (q .after) in
-    let poll = same-parts (p .after) q₁ in
-    let q₂ = subst (SaysCounter y) (sym (poll .1)) (q₁ .after) in
-    reading-tells x y (house .0) (poll .0) (p .after .after .value ∙ sym (q₂ .value))
+use Rattle.typed.proofs.LineLaws.{says-one}
 
 -- decimal numbers
 
@@ -93,19 +81,3 @@ written-says reading L =
 pub written-read : (reading : Reading) (answer : Typed) → Lawful reading → Answers (written reading) answer → answer ≡ Said reading
 written-read reading (Said other) L a = ap Said (says-one other reading a (written-says reading L))
 written-read reading Nothing L a = absurd (a reading (written-says reading L))
-
--- 62 bytes at most, so the first 63 of a line answer for the whole line
-
-says-short : (line : List ℕ) (reading : Reading) → Says reading line → length line ≤ 62
-says-short line reading p =
-    let q = p .after in
-    omega
-    (arith, ap length (p .is) ∙ length-append (p .text) (32 ∷ p .rest), p .number .few, ap length (q .is) ∙ length-append (q .text) (32 ∷ q .rest), q .number .few, q .after .few)
-
-pub front-answers : (line : List ℕ) (answer : Typed) → Answers (take 63 line) answer → Answers line answer
-front-answers line answer a = pick (decLe (length line) 63) answer a
-  where
-    pick : Dec (length line ≤ 63) → (x : Typed) → Answers (take 63 line) x → Answers line x
-    pick (yes h) x b = subst (λ (l : List ℕ). Answers l x) (take-all 63 line h) b
-    pick (no h) (Said reading) b = absurd (omega (arith, says-short (take 63 line) reading b, length-take-le 63 line (omega arith)))
-    pick (no h) Nothing b = λ reading p. omega (arith, says-short line reading p)
