@@ -65,15 +65,8 @@ fn run_command(
             after
         }
         _ => {
-            let record = keep(
-                line,
-                command,
-                numbers,
-                &word[..n],
-                &stretch[..long],
-                bench.record,
-            );
-            after.record = record;
+            let held = bench.record;
+            after.record = keep(line, command, numbers, &word[..n], &stretch[..long], held);
             after
         }
     }

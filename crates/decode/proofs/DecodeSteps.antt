@@ -1,18 +1,17 @@
--- One turn of each loop of Decode, and its outcomes, one lemma for each way out.
+-- The outcomes of Decode, one lemma for each way out, and what its steps tell each other.
 use mathlib.Core.Path.{_≡_, _∙_, refl, sym, ap, subst}
 use mathlib.Core.Bool.{not}
 use mathlib.Core.List.{List, _++_, List·Memᴰ}
-use Prim.Native.Nat.{ℕ, _+_, _-_, _*_, _^_, _≤_, _<_}
+use Prim.Native.Nat.{ℕ, _+_, _-_, _≤_, _<_}
 use native.Mathlib.Omega.{arith}
 use borrow.Author.Tests.{eq-eqb, ne-eqb, lt-ltb, le-ltb}
 use lib.Dec.{eqb}
-use lib.ListN.{length, getD, take, replicate}
+use lib.ListN.{length, take, replicate}
 use Rattle.sheet.specs.declared.Refusal.{Refusal}
 use Rattle.sheet.specs.declared.Refusal.the-variants.{InputLength, OutputLength, BitAboveOne, NothingNear}
 use Rattle.sheet.specs.Number.{numberOf, refuseIf}
 use Rattle.sheet.proofs.NumberLaws.{refusal-not}
-use Rattle.bits.specs.Bits.{AreBits, firstAbove, flipped}
-use Rattle.field.specs.Product.{Listed}
+use Rattle.bits.specs.Bits.{firstAbove, hasBadBit, flipped}
 use Rattle.field.specs.Power.{nOf}
 use Rattle.field.proofs.Range.{sizes}
 use Rattle.codes.specs.Sums.{CodeWord}
@@ -21,7 +20,6 @@ use Rattle.locate.specs.declared.Found.{Found}
 use Rattle.locate.specs.declared.Found.the-variants.{Places, Nothing}
 use Rattle.locate.specs.Located.{Located, Tells, Searched}
 use Rattle.codes.specs.Look.{codeRefusal, Accepted}
-use Rattle.bits.specs.Bits.{hasBadBit}
 use Rattle.decode.specs.declared.Decoded.{Decoded}
 use Rattle.decode.specs.declared.Decoded.the-variants.{Mended, Refused}
 use Rattle.decode.specs.Decode.{Decodes, Finds, Kept, Mends, Far, decodeRefusal}

@@ -1,5 +1,4 @@
 -- What check 7 leaves; no promise of an operation speaks of it.
-use mathlib.Core.List.{List}
 use Prim.Native.Nat.{ℕ, _^_, _<_}
 use lib.ListN.{getD, take}
 use Rattle.bits.specs.Bits.{AreBits}

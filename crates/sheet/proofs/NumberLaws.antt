@@ -1,14 +1,12 @@
--- The sheet's numbers are positive and tell the refusals apart; a check that does not refuse leaves it to the later ones.
+-- The sheet's numbers are positive and tell the refusals apart.
 use mathlib.Core.Path.{_≡_, _∙_, refl, sym, ap}
-use mathlib.Core.Bool.{Bool, true, false}
 use mathlib.Core.List.{List, [], _∷_}
-use mathlib.Core.Logic.{_≢_}
 use Prim.Native.Nat.{ℕ, _≤_}
 use native.Mathlib.Omega.{arith}
 use lib.ListN.{getD}
 use Rattle.sheet.specs.declared.Refusal.{Refusal}
 use Rattle.sheet.specs.declared.Refusal.the-variants.{FieldSize, NotListed, InputLength, OutputLength, BitAboveOne, NothingNear, RecordContents, SecondCheck, FrameLength, PadBit, LeadBits, StretchEnd}
-use Rattle.sheet.specs.Number.{numberOf, refuseIf}
+use Rattle.sheet.specs.Number.{numberOf}
 
 -- the refusals in the order of their numbers
 sheet : List Refusal

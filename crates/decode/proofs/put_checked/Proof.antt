@@ -2,7 +2,6 @@
 use borrow.Author.Needs.{needs}
 use mathlib.Core.Path.{_∙_, refl, sym, ap}
 use mathlib.Core.Bool.{not, false≢true}
-use native.Mathlib.Omega.{arith}
 use Rattle.bits.proofs.Turns.{copied-whole}
 use Rattle.decode.proofs.put_checked.Statement.{statement}
 use Rattle.decode.proofs.put_checked.Tie as tie

@@ -1,5 +1,5 @@
 -- Either of the two tells.
-use mathlib.Core.Path.{_≡_, _∙_, refl, sym, ap}
+use mathlib.Core.Path.{_≡_, _∙_, sym, ap}
 use mathlib.Core.Bool.{Bool, true, false, _||_}
 use borrow.Author.Needs.{needs}
 use Rattle.codec.proofs.editing.has_bad_bit.Statement.{statement}
