@@ -25,3 +25,6 @@ over-lt m h = div-lt-iff-lt-mul (pow-pos m) .1 (mul-lt-mul-of-pos-left h (zero-l
 -- the room that powers_space and logs_space give is enough for every m
 pub powers-room : {m : ℕ} → Listed m → {d : ℕ} → 2046 ≡ d → 2 * nOf m ≤ d
 powers-room l e = let s = sizes l in omega arith
+
+pub logs-room : {m : ℕ} → Listed m → {d : ℕ} → 1024 ≡ d → 2 ^ m ≤ d
+logs-room l e = let s = sizes l in omega arith

@@ -1,7 +1,7 @@
 // The field of 2^m elements, m from 3 to 10. An element is a number below 2^m whose bit i is the coefficient of a^i.
 
 ghost use mathlib.Core.Path.{_≡_};
-ghost use Prim.Native.Nat.{_+_, _*_, _%_, _^_, _≤_, _<_};
+ghost use Prim.Native.Nat.{_+_, _*_, _%_, _^_, _<_};
 ghost use lib.ListN.{length};
 ghost use Rattle.field.specs.Product.{Listed, polynomial, _⊗⟨_⟩_};
 ghost use Rattle.field.specs.Power.{a, nOf, power, inverse};
@@ -31,8 +31,11 @@ pub fn times_a(m: usize, p: u16, x: u16) -> u16
     ensures { λ r. ⌜ r ≡ a ⊗⟨ m ⟩ x ⌝ }
 {
     let twice = 2 * x;
-    let over = twice >> m;
-    twice ^ (over * p)
+    let n = n_of(m);
+    if twice as usize > n {
+        return twice ^ p;
+    }
+    twice
 }
 
 // Room for the powers of every m, to be filled by fill_powers.
@@ -49,24 +52,25 @@ pub fn logs_space() -> [u16; 1024]
     [0; 1024]
 }
 
-// Twice around: the places 0 to 2n - 1.
+// Twice around, the places 0 to 2n - 1: a^n is 1, so each power stands at two places.
 pub fn fill_powers(m: usize, powers: &mut [u16])
-    requires { ⌜ (Listed m) × (2 * nOf m ≤ length (now powers)) ⌝ }
+    requires { ⌜ (Listed m) × (2046 ≡ length (now powers)) ⌝ }
     ensures { λ _. ⌜ Powers m (now (powers .exit)) ⌝ }
 {
     let p = polynomial(m);
-    let end = 2 * n_of(m);
+    let n = n_of(m);
     let mut x = 1;
     let mut i = 0;
-    while i < end {
+    while i < n {
         powers[i] = x;
+        powers[n + i] = x;
         x = times_a(m, p, x);
         i += 1;
     }
 }
 
 pub fn fill_logs(m: usize, powers: &[u16], logs: &mut [u16])
-    requires { ⌜ (Listed m) × (Powers m (now powers)) × (2 ^ m ≤ length (now logs)) ⌝ }
+    requires { ⌜ (Listed m) × (Powers m (now powers)) × (1024 ≡ length (now logs)) ⌝ }
     ensures { λ _. ⌜ Tables m (now (powers .entry)) (now (logs .exit)) ⌝ }
 {
     let n = n_of(m);
@@ -76,15 +80,6 @@ pub fn fill_logs(m: usize, powers: &[u16], logs: &mut [u16])
         logs[x] = i as u16;
         i += 1;
     }
-}
-
-// Both tables of this m, in room for every m.
-pub fn fill_tables(m: usize, powers: &mut [u16], logs: &mut [u16])
-    requires { ⌜ Listed m × (2046 ≡ length (now powers)) × (1024 ≡ length (now logs)) ⌝ }
-    ensures { λ _. ⌜ Tables m (now (powers .exit)) (now (logs .exit)) ⌝ }
-{
-    fill_powers(m, powers);
-    fill_logs(m, powers, logs);
 }
 
 // The product by the two tables: logarithms add up, and 0 has none.
@@ -137,12 +132,4 @@ pub fn around(n: usize, e: usize) -> usize
         return e;
     }
     e - n
-}
-
-// The power p of a.
-pub fn power_of_a(m: usize, powers: &[u16], logs: &[u16], p: usize) -> u16
-    requires { ⌜ (Tables m (now powers) (now logs)) × (p < nOf m) ⌝ }
-    ensures { λ r. ⌜ r ≡ power m a p ⌝ }
-{
-    powers[p]
 }

@@ -69,7 +69,8 @@ fn sums_line(powers: &[u16], logs: &[u16])
 fn gf16() {
     let mut powers = field::powers_space();
     let mut logs = field::logs_space();
-    field::fill_tables(4, &mut powers, &mut logs);
+    field::fill_powers(4, &mut powers);
+    field::fill_logs(4, &powers, &mut logs);
     powers_line(&powers, &logs);
     roots_line(&powers, &logs);
     sums_line(&powers, &logs);
@@ -97,7 +98,8 @@ fn field_line(m: usize)
 {
     let mut powers = field::powers_space();
     let mut logs = field::logs_space();
-    field::fill_tables(m, &mut powers, &mut logs);
+    field::fill_powers(m, &mut powers);
+    field::fill_logs(m, &powers, &mut logs);
     values_line(m, &powers, &logs);
 }
 

@@ -8,7 +8,7 @@ use native.Mathlib.Numerals.{add-one}
 use native.Mathlib.Decide.{ℕ-discrete}
 use native.Mathlib.Omega.{arith}
 use lib.ListN.{length, getD, take}
-use lib.Seq.{length-take-le}
+use lib.Seq.{getD-take, length-take-le}
 use Rattle.algebra.specs.Ring.{Ring, Field}
 use Rattle.algebra.specs.Series.{Series, tail, EqualBelow, Distinct, evaluate}
 use Rattle.algebra.specs.Series as Series
@@ -18,7 +18,7 @@ use Rattle.algebra.proofs.Field.{inverse-unique}
 use Rattle.algebra.proofs.Run.{run-degree}
 use Rattle.algebra.proofs.Finds.{Finds, NonZero, finds, short-before, same-set}
 use Rattle.bits.specs.Differences.{Ascending}
-use Rattle.bits.proofs.Places.{ascending-same}
+use Rattle.bits.proofs.Places.{member-at, ascending-same}
 use Rattle.field.specs.Sum as Sum
 use Rattle.field.specs.Product.{Listed, _⊗⟨_⟩_}
 use Rattle.field.specs.Power.{a, nOf, power}
@@ -231,6 +231,13 @@ module _ {m t l : ℕ} {sums sigma ps : List ℕ} (s : SolvedFor m t sums l sigm
 
     pub not-other : {count : ℕ} {r : Bool} {places : List ℕ} → Tried m t sigma (l + 1) count places → count ≤ t → Agrees m t (take count places) sums r → r ≡ false → ⊥
     not-other w k c e = c .no e (λ i h. ap (sumOver m (2 * i + 1)) (w .all-of k ∙ zeros-are) ∙ u .same i h)
+
+-- what is found are places
+pub found-below : {m t c count : ℕ} {sigma places : List ℕ} → Tried m t sigma c count places → count ≤ t → t ≤ length places → (i : ℕ) → i < count → getD places i 0 < nOf m
+found-below {m} {c = c} {count} {sigma} {places} w h l i k = zeros-member m sigma c (nOf m) (getD places i 0) (rw (w .all-of h) at here) .0
+  where
+    here : List·Memᴰ (getD places i 0) (take count places)
+    here = rw (sym (getD-take count places i 0 k)) (member-at (take count places) i (omega (arith, length-take-le count places (omega arith))))
 
 -- places whose sums agree are located
 pub located : {m t c count : ℕ} {r : Bool} {sums sigma places : List ℕ} → Tried m t sigma c count places → count ≤ t → t ≤ length places → Agrees m t (take count places) sums r → r ≡ true → Located m t sums (take count places)

@@ -4,8 +4,9 @@ ghost use mathlib.Core.Path.{_≡_};
 ghost use Prim.Native.Nat.{ℕ, _+_, _^_, _≤_, _<_};
 ghost use lib.ListN.{length, getD, take, replicate};
 ghost use Rattle.entries.specs.Entries.{Filled};
+ghost use Rattle.field.specs.Product.{Listed};
 ghost use Rattle.field.specs.Power.{nOf};
-ghost use Rattle.field.specs.Tables.{Tables};
+ghost use Rattle.field.specs.Tables.{Powers, Tables};
 ghost use Rattle.locate.specs.Located.{Searched};
 ghost use Rattle.locate.specs.Work.{plusTerm, tried, NotedOne, Tried, Agrees, Sought};
 
@@ -105,20 +106,12 @@ fn try_all(
 }
 
 // Whether the sums of the places are the given ones.
-fn compare(
-    m: usize,
-    powers: &[u16],
-    logs: &[u16],
-    t: usize,
-    places: &[u16],
-    count: usize,
-    sums: &[u16],
-) -> bool
-    requires { ⌜ (Tables m (now powers) (now logs)) × (t ≤ 255) × (count ≤ length (now places)) × (t ≤ length (now sums)) ⌝ }
+fn compare(m: usize, powers: &[u16], t: usize, places: &[u16], count: usize, sums: &[u16]) -> bool
+    requires { ⌜ (Listed m) × (Powers m (now powers)) × (t ≤ 255) × (count ≤ length (now places)) × ((i : ℕ) → i < count → getD (now places) i 0 < nOf m) × (t ≤ length (now sums)) ⌝ }
     ensures { λ r. ⌜ Agrees m t (take count (now (places .entry))) (now (sums .entry)) r ⌝ }
 {
     let mut own = sums::space();
-    sums::place_sums(m, powers, logs, t, places, count, &mut own);
+    sums::place_sums(m, powers, t, places, count, &mut own);
     entries::same_first(t, &own, sums)
 }
 
@@ -143,7 +136,7 @@ fn find(
     if t < found {
         return found;
     }
-    let same = compare(m, powers, logs, t, places, found, sums);
+    let same = compare(m, powers, t, places, found, sums);
     if same {
         return found;
     }
@@ -156,9 +149,9 @@ fn places_space() -> [u16; 255]
     [0; 255]
 }
 
-// The places whose odd sums, the first t, are the given ones: at most t places, or none such.
-pub fn locate(m: usize, t: usize, powers: &[u16], logs: &[u16], sums: &[u16]) -> Search
-    requires { ⌜ (Tables m (now powers) (now logs)) × (t ≤ 255) × (t ≤ length (now sums)) × ((i : ℕ) → i < t → getD (now sums) i 0 < 2 ^ m) ⌝ }
+// The places whose odd sums, the first t, are the given ones: at most t places, or none such. Logarithms are made only where something is wrong.
+pub fn locate(m: usize, t: usize, powers: &[u16], sums: &[u16]) -> Search
+    requires { ⌜ (Listed m) × (Powers m (now powers)) × (t ≤ 255) × (t ≤ length (now sums)) × ((i : ℕ) → i < t → getD (now sums) i 0 < 2 ^ m) ⌝ }
     ensures { λ r. ⌜ Searched m t (now (sums .entry)) r ⌝ }
 {
     let mut places = places_space();
@@ -169,8 +162,10 @@ pub fn locate(m: usize, t: usize, powers: &[u16], logs: &[u16], sums: &[u16]) ->
             places,
         };
     }
+    let mut logs = field::logs_space();
+    field::fill_logs(m, powers, &mut logs);
     let mut sigma = key::space();
-    let found = find(m, powers, logs, t, sums, &mut sigma, &mut places);
+    let found = find(m, powers, &logs, t, sums, &mut sigma, &mut places);
     if t < found {
         return Search {
             answer: Found::Nothing,

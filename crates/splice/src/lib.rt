@@ -3,8 +3,9 @@
 ghost use mathlib.Core.Path.{_≡_};
 ghost use Prim.Native.Nat.{_+_, _≤_, _<_};
 ghost use lib.ListN.{length};
+ghost use Rattle.field.specs.Product.{Listed};
 ghost use Rattle.field.specs.Power.{nOf};
-ghost use Rattle.field.specs.Tables.{Tables};
+ghost use Rattle.field.specs.Tables.{Powers};
 ghost use Rattle.codes.specs.Look.{Accepted};
 ghost use Rattle.kept.specs.declared.Outcome.the-variants.{Refused};
 ghost use Rattle.splice.specs.Splice.{Splices, Spliced};
@@ -59,29 +60,27 @@ fn spliced(stored: Kept, start: usize, stretch: &[u8]) -> Kept
     let mut bits = stored.bits;
     let mut sums = stored.sums;
     let mut powers = field::powers_space();
-    let mut logs = field::logs_space();
-    field::fill_tables(m, &mut powers, &mut logs);
-    splice_stretch(m, &powers, &logs, t, start, stretch, &mut bits, &mut sums);
+    field::fill_powers(m, &mut powers);
+    splice_stretch(m, &powers, t, start, stretch, &mut bits, &mut sums);
     Kept { m, t, bits, sums }
 }
 
 fn splice_stretch(
     m: usize,
     powers: &[u16],
-    logs: &[u16],
     t: usize,
     start: usize,
     stretch: &[u8],
     bits: &mut [u8],
     sums: &mut [u16],
 )
-    requires { ⌜ Tables m (now powers) (now logs) × (start + length (now stretch) ≤ nOf m) × (nOf m ≤ length (now bits)) × (t ≤ length (now sums)) ⌝ }
+    requires { ⌜ Listed m × Powers m (now powers) × (start + length (now stretch) ≤ nOf m) × (nOf m ≤ length (now bits)) × (t ≤ length (now sums)) ⌝ }
     ensures { λ _. ⌜ StretchSpliced m t start (now (stretch .entry)) (now (bits .entry)) (now (sums .entry)) (now (bits .exit)) (now (sums .exit)) (length (now (stretch .entry))) ⌝ }
 {
     let mut i = 0;
     while i < stretch.len() {
         let b = stretch[i];
-        splice_place(m, powers, logs, t, b, start + i, bits, sums);
+        splice_place(m, powers, t, b, start + i, bits, sums);
         i += 1;
     }
 }
@@ -90,20 +89,19 @@ fn splice_stretch(
 fn splice_place(
     m: usize,
     powers: &[u16],
-    logs: &[u16],
     t: usize,
     b: u8,
     p: usize,
     bits: &mut [u8],
     sums: &mut [u16],
 )
-    requires { ⌜ Tables m (now powers) (now logs) × (p < nOf m) × (p < length (now bits)) × (t ≤ length (now sums)) ⌝ }
+    requires { ⌜ Listed m × Powers m (now powers) × (p < nOf m) × (p < length (now bits)) × (t ≤ length (now sums)) ⌝ }
     ensures { λ _. ⌜ PlaceSpliced m t b p (now (bits .entry)) (now (sums .entry)) (now (bits .exit)) (now (sums .exit)) ⌝ }
 {
     let old = bits[p];
     if old != b {
         bits[p] = b;
-        sums::add_place(m, powers, logs, p, t, sums);
+        sums::add_place(m, powers, p, t, sums);
     }
 }
 

@@ -3,10 +3,11 @@ use mathlib.Core.Path.{_≡_, _∙_, refl, sym, ap, ap₂}
 use mathlib.Core.List.{List, [], _∷_, _++_}
 use Prim.Native.Nat.{ℕ, _+_, _*_, _%_, _^_, _≤_, _<_}
 use native.Mathlib.Numerals.{add-one}
-use native.Mathlib.Nat.{zero-mul, one-mul}
+use native.Mathlib.Nat.{add-zero, zero-mul, one-mul, ne-of-lt}
+use borrow.Author.Count.{below-none, below-more}
 use native.Mathlib.Omega.{arith}
-use lib.ListN.{length, getD, take, replicate, length-replicate}
-use lib.Seq.{take-suc, length-take-le, take-all}
+use lib.ListN.{length, getD, set, take, replicate, length-set, length-replicate}
+use lib.Seq.{getD-set-same, getD-set-other, take-suc, take-suc-set, take-set-le, length-take-le, take-all}
 use Rattle.bits.specs.Bits.{AreBits}
 use Rattle.bits.proofs.BitLaws.{bit-cases, bits-cons, bits-replicate, bits-take, zeros-at}
 use Rattle.field.specs.Sum.{_⊕_}
@@ -15,21 +16,17 @@ use Rattle.field.specs.Power.{a, nOf, power}
 use Rattle.field.proofs.SumLaws.{sum-zero, zero-sum, sum-assoc}
 use Rattle.field.proofs.ProductLaws.{product-one, product-zero, product-comm}
 use Rattle.field.proofs.PowerLaws.{power-one, power-add, power-mul, power-bound}
-use Rattle.field.proofs.Order.{eight-bound}
 use Rattle.codes.specs.Sums.{sumOf, sumOver}
 use Rattle.codes.proofs.SumLaws.{sum-cons, sum-append, sumOver-nil, sumOver-cons, sum-none}
 use Rattle.entries.specs.Entries.{Filled, nothing}
 use Rattle.entries.proofs.FillLaws.{fill-from, fill-as, fill-after}
-use Rattle.walks.specs.Multiples.{plusMultiple}
-use Rattle.field.proofs.Exponents.{around-below, around-power}
-use Rattle.sums.specs.Rows.{plusPower, plusBit, wordSum, placeSum, OddSums}
+use Rattle.walks.specs.Multiples.{plusWalk}
+use Rattle.field.proofs.Exponents.{around-power}
+use Rattle.sums.specs.Rows.{plusPower, wordSum, placeSum, Ones, OddSums}
 
-pub below-power : {m s : ℕ} (p : ℕ) → Listed m → s ≡ power m a p → s < 2 ^ m
-below-power p L e = rw e (power-bound L a p)
-
--- by a^(2p) from a^p on: the odd powers of a^p
-pub place-added : {m n s step t : ℕ} {before after : List ℕ} (p : ℕ) → Listed m → n ≡ nOf m → s ≡ power m a p → step ≡ 2 * p % n → Filled (plusMultiple m s step before) t before after → Filled (plusPower m (power m a p) before) t before after
-place-added {m} {n} {s} {step} {before = before} p L is e q u = fill-as u (λ i h. ap (λ z. getD before i 0 ⊕ z) (ap (λ (z : ℕ). z ⊗⟨ m ⟩ power m a (step * i)) e ∙ odd i))
+-- from a^p on by a^(2p): the odd powers of a^p
+pub place-added : {m n step t : ℕ} {before after : List ℕ} (p : ℕ) → Listed m → n ≡ nOf m → step ≡ 2 * p % n → Filled (plusWalk m p step before) t before after → Filled (plusPower m (power m a p) before) t before after
+place-added {m} {n} {step} {before = before} p L is q u = fill-as u (λ i h. ap (λ z. getD before i 0 ⊕ z) (power-add L a p (step * i) ∙ odd i))
   where
     x : ℕ
     x = power m a p
@@ -51,18 +48,6 @@ bits-one : (b : ℕ) → b ≤ 1 → AreBits (b ∷ [])
 bits-one b h = bits-cons h (bits-replicate 0)
 
 module _ {m : ℕ} (L : Listed m) where
-  -- one bit of a word
-
-  pub bit-added : {b t : ℕ} {before after : List ℕ} (x : ℕ) → b ≡ 1 → Filled (plusPower m x before) t before after → Filled (plusBit m b x before) t before after
-  bit-added {b} {before = before} x e s =
-      fill-as s (λ i h. ap (λ z. getD before i 0 ⊕ z) (sym (ap (λ d. d * power m x (2 * i + 1)) e ∙ one-mul (power m x (2 * i + 1)))))
-
-  pub bit-skipped : {b : ℕ} (x t : ℕ) (before : List ℕ) → b ≤ 1 → (b ≡ 1 → ⊥) → Filled (plusBit m b x before) t before before
-  bit-skipped {b} x t before h n = fill-from _ t before (λ i k. sym (ap (λ d. getD before i 0 ⊕ d * power m x (2 * i + 1)) none ∙ ap (λ z. getD before i 0 ⊕ z) (zero-mul (power m x (2 * i + 1))) ∙ sum-zero (getD before i 0)))
-    where
-      none : b ≡ 0
-      none = omega arith
-
   bit-product : (b y : ℕ) → b ≤ 1 → y < 2 ^ m → y ⊗⟨ m ⟩ b ≡ b * y
   bit-product b y h k = bit-cases (λ b. y ⊗⟨ m ⟩ b ≡ b * y) (product-zero m y ∙ sym (zero-mul y)) (product-one L y k ∙ sym (one-mul y)) b h
 
@@ -79,39 +64,6 @@ module _ {m : ℕ} (L : Listed m) where
       ∙ ap₂ (λ y z. sumOf m j (take i word) ⊕ y ⊗⟨ m ⟩ z) (ap (λ n. power m a (n * j)) (length-take-le i word (omega arith)) ∙ power-mul L a i j) (sum-bit j d (b .at i))
       ∙ ap (λ z. sumOf m j (take i word) ⊕ z) (bit-product d (power m (power m a i) j) (b .at i) (power-bound L _ j))
 
--- the bits before place i are worked in, and p is i on the ring of n places
-pub record Summing (m t : ℕ) (word before after : List ℕ) (p i : ℕ) : Type 0 where
-  pub within : i ≤ length word
-  pub below : p < nOf m
-  pub here : power m a p ≡ power m a i
-  pub filled : Filled (wordSum m (take i word)) t before after
-
-pub summing-start : {m t : ℕ} {first before : List ℕ} (word : List ℕ) → Listed m → Filled nothing t first before → Summing m t word before before 0 0
-summing-start {m} {t} {before = before} word L s =
-    record {
-      within = omega arith;
-      below = omega (arith, eight-bound L);
-      here = refl;
-      filled = fill-from _ t before (λ i h. s .holds i h ∙ sym (sum-none m (2 * i + 1) [] (λ k. refl)));
-    }
-
-pub summing-next : {m t n p i r : ℕ} {word before middle after : List ℕ} → Listed m → AreBits word → Summing m t word before middle p i → n ≡ nOf m → i < length word
-    → Filled (plusBit m (getD word i 0) (power m a p) middle) t middle after → r ≡ (p + 1) % n → Summing m t word before after r (i + 1)
-summing-next {m} {t} {n} {p} {i} {r} {word} {before} {middle} L b s is h u e =
-    record {
-      within = omega arith;
-      below = around-below L (p + 1) is e;
-      here = around-power L (p + 1) is e ∙ power-add L a p 1 ∙ ap (λ (z : ℕ). z ⊗⟨ m ⟩ power m a 1) (s .here) ∙ sym (power-add L a i 1);
-      filled = fill-after (s .filled) (fill-as u (λ j k.
-          ap₂ (λ y z. y ⊕ getD word i 0 * power m z (2 * j + 1)) (s .filled .holds j k) (s .here)
-          ∙ sym (sum-more L (2 * j + 1) i word b h)));
-    }
-
-pub summing-done : {m t p i : ℕ} {word first before after : List ℕ} → Filled nothing t first before → Summing m t word before after p i → length word ≤ i → Filled (wordSum m word) t first after
-summing-done {m} {i = i} {word} c s h = fill-after c (fill-as (s .filled) (λ j k. ap (sumOf m (2 * j + 1)) (take-all i word h)))
-
--- the sums of a list of places
-
 pub sumOver-snoc : (m j p : ℕ) (ps : List ℕ) → sumOver m j (ps ++ (p ∷ [])) ≡ sumOver m j ps ⊕ power m a (p * j)
 sumOver-snoc m j p [] = sumOver-cons m j p [] ∙ ap (λ z. power m a (p * j) ⊕ z) (sumOver-nil m j) ∙ sum-zero _ ∙ sym (ap (λ z. z ⊕ power m a (p * j)) (sumOver-nil m j) ∙ zero-sum _)
 sumOver-snoc m j p (q ∷ ps) =
@@ -119,6 +71,79 @@ sumOver-snoc m j p (q ∷ ps) =
     ∙ ap (λ z. power m a (q * j) ⊕ z) (sumOver-snoc m j p ps)
     ∙ sym (sum-assoc (power m a (q * j)) (sumOver m j ps) (power m a (p * j)))
     ∙ ap (λ z. z ⊕ power m a (p * j)) (sym (sumOver-cons m j q ps))
+
+-- the ones among the first i places are written down
+pub record Listing (word first places : List ℕ) (count i : ℕ) : Type 0 where
+  pub long : length places ≡ length first
+  pub fewer : count ≤ i
+  pub within : i ≤ length word
+  pub below : (k : ℕ) → k < count → getD places k 0 < i
+  pub same : {m : ℕ} → Listed m → (j : ℕ) → sumOver m j (take count places) ≡ sumOf m j (take i word)
+
+pub listing-start : (word places : List ℕ) → Listing word places places 0 0
+listing-start word places =
+    record {
+      long = refl;
+      fewer = omega arith;
+      within = omega arith;
+      below = below-none _;
+      same = λ {m} L j. sumOver-nil m j ∙ sym (sum-none m j [] (λ k. refl));
+    }
+
+-- place i is written behind those that were found, and counted if it holds 1
+module _ {word first places : List ℕ} {count i : ℕ} (B : AreBits word) (s : Listing word first places count i) (h : i < length word) (k : i < length places) where
+  still : (q : ℕ) → q < count → getD (set places count i) q 0 < i + 1
+  still q l = rw (getD-set-other places count q i 0 (ne-of-lt l)) (omega (arith, s .below q l))
+
+  listing-zero : getD word i 0 ≡ 0 → Listing word first (set places count i) (count + 0) (i + 1)
+  listing-zero z =
+      record {
+        long = length-set places count i ∙ s .long;
+        fewer = omega (arith, s .fewer);
+        within = omega arith;
+        below = λ q l. still q (omega arith);
+        same = λ {m} L j.
+            ap (λ c. sumOver m j (take c (set places count i))) (add-zero count)
+            ∙ ap (sumOver m j) (take-set-le count places count i (omega arith))
+            ∙ s .same L j
+            ∙ sym (sum-more L j i word B h
+            ∙ ap (λ d. sumOf m j (take i word) ⊕ d * power m (power m a i) j) z
+            ∙ ap (λ d. sumOf m j (take i word) ⊕ d) (zero-mul (power m (power m a i) j))
+            ∙ sum-zero (sumOf m j (take i word)));
+      }
+
+  listing-one : getD word i 0 ≡ 1 → Listing word first (set places count i) (count + 1) (i + 1)
+  listing-one z =
+      record {
+        long = length-set places count i ∙ s .long;
+        fewer = omega (arith, s .fewer);
+        within = omega arith;
+        below = below-more _ count still (rw (getD-set-same places count i 0 (omega (arith, s .fewer))) (omega arith));
+        same = λ {m} L j.
+            ap (λ c. sumOver m j (take c (set places count i))) (add-one count)
+            ∙ ap (sumOver m j) (take-suc-set places count i (omega (arith, s .fewer)))
+            ∙ sumOver-snoc m j i (take count places)
+            ∙ ap₂ (λ x y. x ⊕ y) (s .same L j) (power-mul L a i j)
+            ∙ sym (sum-more L j i word B h
+            ∙ ap (λ d. sumOf m j (take i word) ⊕ d * power m (power m a i) j) z
+            ∙ ap (λ d. sumOf m j (take i word) ⊕ d) (one-mul (power m (power m a i) j)));
+      }
+
+  pub listing-next : Listing word first (set places count i) (count + getD word i 0) (i + 1)
+  listing-next =
+      bit-cases (λ b. getD word i 0 ≡ b → Listing word first (set places count i) (count + b) (i + 1)) listing-zero listing-one (getD word i 0) (B .at i) refl
+
+pub listing-done : {word first places : List ℕ} {count i : ℕ} → Listing word first places count i → length word ≤ i → length word ≤ length first → Ones word count places
+listing-done {word} {i = i} s h l =
+    record {
+      within = omega (arith, s .long, s .fewer, s .within);
+      below = λ k q. omega (arith, s .below k q, s .within);
+      same = λ {m} L j. s .same L j ∙ ap (sumOf m j) (take-all i word h);
+    }
+
+-- the sums of the list are those of the word
+pub ones-summed : {m t count : ℕ} {word places first after : List ℕ} → Listed m → Ones word count places → Filled (placeSum m (take count places)) t first after → Filled (wordSum m word) t first after
+ones-summed L o u = fill-as u (λ i h. o .same L (2 * i + 1))
 
 pub record Placing (m t : ℕ) (places before after : List ℕ) (i : ℕ) : Type 0 where
   pub filled : Filled (placeSum m (take i places)) t before after

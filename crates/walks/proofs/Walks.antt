@@ -74,6 +74,13 @@ walked-to {m} {start} {step} {i} {e = e} {before} {after} s q = subst (λ (z : �
 pub walked-by : {m start step i d e : ℕ} {before after after′ : List ℕ} → after′ ≡ after → Walked m start step i d before e after → Walked m start step i d before e after′
 walked-by {m} {start} {step} {i} {d} {e} {before} q s = subst (λ (xs : List ℕ). Walked m start step i d before e xs) (sym q) s
 
+-- one entry after the other
+pub four-added : {ws us vs zs : List ℕ} (powers xs : List ℕ) (e f g h j : ℕ) → ws ≡ plusAt xs j (getD powers e 0) → us ≡ plusAt ws (j + 1) (getD powers f 0) → vs ≡ plusAt us (j + 2) (getD powers g 0) → zs ≡ plusAt vs (j + 3) (getD powers h 0)
+    → zs ≡ plusFour powers e f g h j xs
+four-added powers xs e f g h j p q r s =
+    s
+    ∙ ap (λ l. plusAt l (j + 3) (getD powers h 0)) (r ∙ ap (λ l. plusAt l (j + 2) (getD powers g 0)) (q ∙ ap (λ l. plusAt l (j + 1) (getD powers f 0)) p))
+
 -- the exponents of two, three and four steps, brought below n
 pub record Strides (m step n two three four : ℕ) : Type 0 where
   pub is-n : n ≡ nOf m
@@ -129,7 +136,7 @@ module _ {m step n two three four : ℕ} (L : Listed m) (S : Strides m step n tw
       sum = omega arith
 
   -- four entries more
-  pub walked-four : {start i d e j r : ℕ} {powers before after : List ℕ} → Powers m powers → Walked m start step i d before e after → j ≡ i + d → j + 4 ≤ length before → r ≡ (e + four) % n
+  walked-four : {start i d e j r : ℕ} {powers before after : List ℕ} → Powers m powers → Walked m start step i d before e after → j ≡ i + d → j + 4 ≤ length before → r ≡ (e + four) % n
       → Walked m start step i (d + 4) before r (plusFour powers e (e + step) (e + two) (e + three) j after)
   walked-four {start} {i} {d} {e} {j} {r} {powers} {before} {after} P s at l q =
       record {
@@ -168,6 +175,10 @@ module _ {m step n two three four : ℕ} (L : Listed m) (S : Strides m step n tw
 
       last : d + 3 + 1 ≡ d + 4
       last = omega arith
+
+  pub walked-on-by-four : {start i d d′ e j r : ℕ} {powers before after after′ : List ℕ} → Powers m powers → Walked m start step i d before e after → j ≡ i + d → j + 4 ≤ length before → r ≡ (e + four) % n
+      → after′ ≡ plusFour powers e (e + step) (e + two) (e + three) j after → d + 4 ≡ d′ → Walked m start step i d′ before r after′
+  walked-on-by-four P s at l q u z = walked-by u (walked-to (walked-four P s at l q) z)
 
 -- the first entries and then the others: a walk by the step that was brought below n
 pub walk-done : {m n one c d e count : ℕ} (from step : ℕ) {before middle after : List ℕ} → Listed m → n ≡ nOf m → one ≡ step % n → Walked m from one 0 c before e middle → Added m e one c d middle after → c + d ≡ count

@@ -2,12 +2,12 @@
 
 ghost use mathlib.Core.Path.{_≡_};
 ghost use Prim.Native.Nat.{_+_, _^_, _≤_, _<_};
-ghost use lib.ListN.{length};
+ghost use lib.ListN.{length, getD};
 ghost use Rattle.entries.specs.Entries.{Filled};
 ghost use Rattle.field.specs.Product.{Listed};
 ghost use Rattle.field.specs.Power.{nOf};
 ghost use Rattle.field.specs.Tables.{Powers, Tables};
-ghost use Rattle.walks.specs.Multiples.{plusMultiple, plusWalk, plusFour, Walked};
+ghost use Rattle.walks.specs.Multiples.{plusMultiple, plusWalk, plusAt, plusFour, Walked};
 
 // To each of the first `count` entries s times the next power of a^step is added, from s itself on.
 pub fn add_multiples(
@@ -28,8 +28,15 @@ pub fn add_multiples(
     }
 }
 
-// The same by exponents, so that each power is one look into the table. After the first few entries they go by fours, since none of the four looks waits for another.
-fn add_walk(m: usize, powers: &[u16], from: usize, step: usize, count: usize, entries: &mut [u16])
+// To each of the first `count` entries the next power of a is added, the exponents from `from` on by `step`: one look into the table each. After the first few entries they go by fours, since none of the four looks waits for another.
+pub fn add_walk(
+    m: usize,
+    powers: &[u16],
+    from: usize,
+    step: usize,
+    count: usize,
+    entries: &mut [u16],
+)
     requires { ⌜ (Listed m) × (Powers m (now powers)) × (from < nOf m) × (step ≤ nOf m) × (count ≤ length (now entries)) ⌝ }
     ensures { λ _. ⌜ Filled (plusWalk m from step (now (entries .entry))) count (now (entries .entry)) (now (entries .exit)) ⌝ }
 {
@@ -63,8 +70,7 @@ fn add_first(
     let mut e = from;
     let mut j = 0;
     while j < count {
-        let s = entries[j];
-        entries[j] = s ^ powers[e];
+        add_at(powers, e, j, entries);
         e = field::around(n, e + step);
         j += 1;
     }
@@ -76,12 +82,17 @@ fn add_four(powers: &[u16], e: usize, f: usize, g: usize, h: usize, j: usize, en
     requires { ⌜ (e < length (now powers)) × (f < length (now powers)) × (g < length (now powers)) × (h < length (now powers)) × (j + 4 ≤ length (now entries)) ⌝ }
     ensures { λ _. ⌜ now (entries .exit) ≡ plusFour (now (powers .entry)) e f g h j (now (entries .entry)) ⌝ }
 {
-    let first = entries[j];
-    entries[j] = first ^ powers[e];
-    let second = entries[j + 1];
-    entries[j + 1] = second ^ powers[f];
-    let third = entries[j + 2];
-    entries[j + 2] = third ^ powers[g];
-    let fourth = entries[j + 3];
-    entries[j + 3] = fourth ^ powers[h];
+    add_at(powers, e, j, entries);
+    add_at(powers, f, j + 1, entries);
+    add_at(powers, g, j + 2, entries);
+    add_at(powers, h, j + 3, entries);
+}
+
+// To entry j, the power with exponent e.
+fn add_at(powers: &[u16], e: usize, j: usize, entries: &mut [u16])
+    requires { ⌜ (e < length (now powers)) × (j < length (now entries)) ⌝ }
+    ensures { λ _. ⌜ now (entries .exit) ≡ plusAt (now (entries .entry)) j (getD (now (powers .entry)) e 0) ⌝ }
+{
+    let before = entries[j];
+    entries[j] = before ^ powers[e];
 }

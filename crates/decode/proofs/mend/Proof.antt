@@ -8,7 +8,7 @@ use Rattle.decode.proofs.mend.Statement.{statement}
 use Rattle.decode.proofs.mend.Tie as tie
 
 of-word-requires : tie.Need-of-word-requires
-of-word-requires c κs = let p = c .before .before .before .pre in (p .accepted .listed, p .received-bits, p .accepted .most)
+of-word-requires c κs = let p = c .before .before .before .pre in (p .accepted .listed, p .received-bits, p .received-long, p .accepted .most)
 
 enum-known-answer : tie.Need-enum-known-answer
 enum-known-answer c = search needs

@@ -10,7 +10,7 @@ use lib.Seq.{getD-set-same, getD-set-other}
 use Rattle.field.specs.Product.{Listed}
 use Rattle.field.specs.Power.{a, nOf, power}
 use Rattle.field.specs.Tables.{Powers}
-use Rattle.field.proofs.Range.{sizes}
+use Rattle.field.proofs.Range.{sizes, logs-room}
 use Rattle.field.proofs.PowerLaws.{power-bound}
 use Rattle.field.proofs.Order.{power-injective}
 use Rattle.field.proofs.fill_logs.Statement.{statement}
@@ -63,7 +63,7 @@ n-of-requires c κs = c .before .before .pre .0
 loop-holds : tie.Need-loop-holds Inv-loop μ-loop
 loop-holds c =
     let p = c .before .before .before .pre in
-    record { listed = p .0; is-n = c .n-of .ensures; table = p .1; fits = p .2; same = omega arith; within = omega arith; holds = below-none _ }
+    record { listed = p .0; is-n = c .n-of .ensures; table = p .1; fits = logs-room (p .0) (p .2); same = omega arith; within = omega arith; holds = below-none _ }
 
 mul-x : tie.Need-mul-x Inv-loop μ-loop
 mul-x c = let s = sizes (c .before .loop .inv .listed) in omega arith

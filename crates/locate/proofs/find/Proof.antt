@@ -2,7 +2,7 @@
 use native.Mathlib.Omega.{arith}
 use borrow.Author.Needs.{needs}
 use Rattle.key.proofs.MendLaws.{space-long}
-use Rattle.locate.proofs.FindLaws.{not-passed, not-many, not-other, located, solved-below}
+use Rattle.locate.proofs.FindLaws.{not-passed, not-many, not-other, found-below, located, solved-below}
 use Rattle.locate.proofs.find.Statement.{statement}
 use Rattle.locate.proofs.find.Tie as tie
 
@@ -31,7 +31,10 @@ returns-2 : tie.Need-returns-2
 returns-2 c = record { some = λ h. absurd (omega (arith, c .if2 .taken)); none = λ h ps u. not-many (c .before .before .before .before .before .before .before .before .before .solve .ensures) u (c .before .before .before .before .before .before .if1 .left) (c .before .before .before .try-all .ensures) h }
 
 compare-requires : tie.Need-compare-requires
-compare-requires c κs = search needs
+compare-requires c κs =
+    let s = c .before .before .before .before .before .before .before .before .before .before .before .before .before .before .before .before .before in
+    let k = c .before .before .before .before .try-all .kept .1 .1 .1 .1 .1 .1 .0 in
+    (s .pre .0 .listed, s .pre .0 .powers-hold, s .pre .1, omega (arith, c .before .if2 .left, s .pre .5, k), found-below (c .before .before .before .before .try-all .ensures) (c .before .if2 .left) (omega (arith, s .pre .5, k)), s .pre .2)
 
 add-result : tie.Need-add-result
 add-result c = search needs

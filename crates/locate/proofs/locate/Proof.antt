@@ -14,6 +14,15 @@ all-zero-requires c κs = search needs
 returns : tie.Need-returns
 returns c = record { tells = (omega arith, none-wrong (c .before .all-zero .ensures) (c .if1 .taken)) }
 
+logs-space-requires : tie.Need-logs-space-requires
+logs-space-requires c κs = search needs
+
+slice-aggregate-fill-logs : tie.Need-slice-aggregate-fill-logs
+slice-aggregate-fill-logs c = search needs
+
+fill-logs-requires : tie.Need-fill-logs-requires
+fill-logs-requires c κs = let p = c .before .before .before .before .before .before .before .pre in (p .0, p .1, c .before .logs-space .ensures)
+
 space-requires : tie.Need-space-requires
 space-requires c κs = search needs
 
@@ -23,6 +32,9 @@ slice-aggregate-find c = search needs
 slice-aggregate-find-2 : tie.Need-slice-aggregate-find-2
 slice-aggregate-find-2 c = search needs
 
+slice-aggregate-find-3 : tie.Need-slice-aggregate-find-3
+slice-aggregate-find-3 c = search needs
+
 find-requires : tie.Need-find-requires
 find-requires c κs = search needs
 
@@ -30,7 +42,7 @@ returns-2 : tie.Need-returns-2
 returns-2 c = record { tells = c .before .before .before .find .ensures .none (c .if2 .taken) }
 
 returns-3 : tie.Need-returns-3
-returns-3 c = record { tells = (omega (arith, c .before .before .before .before .before .before .before .before .before .before .before .before .before .pre .1, c .if2 .left), c .before .before .before .find .ensures .some (c .if2 .left)) }
+returns-3 c = record { tells = (omega (arith, c .before .before .before .before .before .before .before .before .before .before .before .before .before .before .before .before .before .pre .2, c .if2 .left), c .before .before .before .find .ensures .some (c .if2 .left)) }
 
 pub locate-spec : {M : Type 1} → statement M
 locate-spec =
@@ -39,9 +51,13 @@ locate-spec =
     places-space-requires
     all-zero-requires
     returns
+    logs-space-requires
+    slice-aggregate-fill-logs
+    fill-logs-requires
     space-requires
     slice-aggregate-find
     slice-aggregate-find-2
+    slice-aggregate-find-3
     find-requires
     returns-2
     returns-3)

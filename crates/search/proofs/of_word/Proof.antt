@@ -17,23 +17,14 @@ sums-below {word = word} L b o i h = rw (o .holds i h) (sum-bounded L (2 * i + 1
 powers-space-requires : tie.Need-powers-space-requires
 powers-space-requires c κs = search needs
 
-logs-space-requires : tie.Need-logs-space-requires
-logs-space-requires c κs = search needs
+slice-aggregate-fill-powers : tie.Need-slice-aggregate-fill-powers
+slice-aggregate-fill-powers c = search needs
 
-slice-aggregate-fill-tables : tie.Need-slice-aggregate-fill-tables
-slice-aggregate-fill-tables c = search needs
-
-slice-aggregate-fill-tables-2 : tie.Need-slice-aggregate-fill-tables-2
-slice-aggregate-fill-tables-2 c = search needs
-
-fill-tables-requires : tie.Need-fill-tables-requires
-fill-tables-requires c κs = search needs
+fill-powers-requires : tie.Need-fill-powers-requires
+fill-powers-requires c κs = search needs
 
 slice-aggregate-odd-sums : tie.Need-slice-aggregate-odd-sums
 slice-aggregate-odd-sums c = search needs
-
-slice-aggregate-odd-sums-2 : tie.Need-slice-aggregate-odd-sums-2
-slice-aggregate-odd-sums-2 c = search needs
 
 odd-sums-requires : tie.Need-odd-sums-requires
 odd-sums-requires c κs = search needs
@@ -44,14 +35,11 @@ slice-aggregate-locate c = search needs
 slice-aggregate-locate-2 : tie.Need-slice-aggregate-locate-2
 slice-aggregate-locate-2 c = search needs
 
-slice-aggregate-locate-3 : tie.Need-slice-aggregate-locate-3
-slice-aggregate-locate-3 c = search needs
-
 locate-requires : tie.Need-locate-requires
 locate-requires c κs =
-    let p = c .before .before .before .before .before .before .before .before .before .before .before .before .before .before .pre in
-    let o = c .before .before .before .odd-sums .ensures in
-    (c .before .before .before .before .before .before .before .before .fill-tables .ensures, p .2, omega (arith, o .long, p .2), sums-below (p .0) (p .1) o)
+    let p = c .before .before .before .before .before .before .before .before .before .pre in
+    let o = c .before .before .odd-sums .ensures in
+    (p .0, c .before .before .before .before .before .fill-powers .ensures, p .3, omega (arith, o .long, p .3), sums-below (p .0) (p .1) o)
 
 returns : tie.Need-returns
 returns c = search needs
@@ -61,15 +49,11 @@ of-word-spec =
     tie.close
     (tie.spec
     powers-space-requires
-    logs-space-requires
-    slice-aggregate-fill-tables
-    slice-aggregate-fill-tables-2
-    fill-tables-requires
+    slice-aggregate-fill-powers
+    fill-powers-requires
     slice-aggregate-odd-sums
-    slice-aggregate-odd-sums-2
     odd-sums-requires
     slice-aggregate-locate
     slice-aggregate-locate-2
-    slice-aggregate-locate-3
     locate-requires
     returns)

@@ -8,10 +8,10 @@ use Rattle.splice.proofs.splice_stretch.Statement.{statement}
 use Rattle.splice.proofs.splice_stretch.Tie as tie
 
 abbrev Inv-loop : tie.InvT-loop
-Inv-loop m powers logs t start stretch bits₀ sums₀ i₀ bits sums i = StretchSpliced m t start stretch bits₀ sums₀ bits sums i
+Inv-loop m powers t start stretch bits₀ sums₀ i₀ bits sums i = StretchSpliced m t start stretch bits₀ sums₀ bits sums i
 
 abbrev μ-loop : tie.MeasureT-loop
-μ-loop m powers logs t start stretch bits₀ sums₀ i₀ bits sums i = length stretch - i
+μ-loop m powers t start stretch bits₀ sums₀ i₀ bits sums i = length stretch - i
 
 loop-holds : tie.Need-loop-holds Inv-loop μ-loop
 loop-holds c = stretch-start _ _ _ _ _ _
@@ -24,10 +24,10 @@ add-splice-place c = omega arith
 
 splice-place-requires : tie.Need-splice-place-requires Inv-loop μ-loop
 splice-place-requires c κs =
-    let p = c .before .before .before .before .before .before .before .before .before .before .pre in
+    let p = c .before .before .before .before .before .before .before .before .before .pre in
     let v = c .before .before .before .before .loop .inv in
-    let l = stretch-long v (omega (arith, v .within, p .1, p .2)) in
-    (p .0, omega (arith, p .1), omega (arith, p .1, p .2, l), omega (arith, p .3, v .filled .same))
+    let l = stretch-long v (omega (arith, v .within, p .2, p .3)) in
+    (p .0, p .1, omega (arith, p .2), omega (arith, p .2, p .3, l), omega (arith, p .4, v .filled .same))
 
 add-i : tie.Need-add-i Inv-loop μ-loop
 add-i c = omega arith
@@ -37,14 +37,14 @@ loop-less c = omega arith
 
 loop-again : tie.Need-loop-again Inv-loop μ-loop
 loop-again c =
-    let p = c .before .before .before .before .before .before .before .before .before .before .before .before .before .before .before .pre in
-    stretch-next (p .0 .listed) (c .before .before .before .before .before .before .before .before .before .loop .inv) (c .before .before .before .before .before .before .before .before .loop-test .taken) (omega (arith, p .1, p .2)) (c .before .before .before .before .splice-place .ensures)
+    let p = c .before .before .before .before .before .before .before .before .before .before .before .before .before .before .pre in
+    stretch-next (p .0) (c .before .before .before .before .before .before .before .before .before .loop .inv) (c .before .before .before .before .before .before .before .before .loop-test .taken) (omega (arith, p .2, p .3)) (c .before .before .before .before .splice-place .ensures)
 
 same-length : tie.Need-same-length Inv-loop μ-loop
 same-length c =
-    let p = c .before .before .before .before .before .before .before .pre in
+    let p = c .before .before .before .before .before .before .pre in
     let v = c .before .loop .inv in
-    stretch-long v (omega (arith, v .within, p .1, p .2))
+    stretch-long v (omega (arith, v .within, p .2, p .3))
 
 same-length-2 : tie.Need-same-length-2 Inv-loop μ-loop
 same-length-2 c = c .before .loop .inv .filled .same

@@ -13,7 +13,7 @@ slice-aggregate-word-sums : tie.Need-slice-aggregate-word-sums
 slice-aggregate-word-sums c = sym (room-long (c .before .space .ensures))
 
 word-sums-requires : tie.Need-word-sums-requires
-word-sums-requires c κs = let p = c .before .before .before .before .before .pre in (p .0, p .1, omega (arith, p .2, room-long (c .before .space .ensures)))
+word-sums-requires c κs = let p = c .before .before .before .before .pre in (p .0, p .1, p .2, p .3, omega (arith, p .4, room-long (c .before .space .ensures)))
 
 returns : tie.Need-returns
 returns c = sums-in-room (c .before .before .before .space .ensures) (c .before .word-sums .ensures)

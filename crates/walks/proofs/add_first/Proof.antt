@@ -2,7 +2,7 @@
 use Prim.Native.Nat.{_-_, _≤_}
 use native.Mathlib.Omega.{arith}
 use Rattle.walks.specs.Multiples.{Walked}
-use Rattle.walks.proofs.Walks.{walked-start, walked-next, walked-to}
+use Rattle.walks.proofs.Walks.{walked-start, walked-next, walked-to, walked-by}
 use Rattle.walks.proofs.add_first.Statement.{statement}
 use Rattle.walks.proofs.add_first.Tie as tie
 
@@ -18,29 +18,14 @@ n-of-requires c κs = c .before .before .pre .0
 loop-holds : tie.Need-loop-holds Inv-loop μ-loop
 loop-holds c = (omega arith, walked-start _ _ _ (c .before .before .before .pre .2))
 
-mul-s : tie.Need-mul-s Inv-loop μ-loop
-mul-s c = omega arith
-
-slice-read-s : tie.Need-slice-read-s Inv-loop μ-loop
-slice-read-s c = omega (arith, c .before .before .loop .inv .1 .added .same)
-
-mul-entries : tie.Need-mul-entries Inv-loop μ-loop
-mul-entries c = omega arith
-
-shared-slice-read-entries : tie.Need-shared-slice-read-entries Inv-loop μ-loop
-shared-slice-read-entries c = omega (arith, c .before .before .before .before .before .before .before .pre .1 .long, c .before .before .before .loop .inv .1 .below)
-
-mul-entries-2 : tie.Need-mul-entries-2 Inv-loop μ-loop
-mul-entries-2 c = omega arith
-
-slice-write-entries : tie.Need-slice-write-entries Inv-loop μ-loop
-slice-write-entries c = omega (arith, c .before .before .before .loop .inv .1 .added .same)
+add-at-requires : tie.Need-add-at-requires Inv-loop μ-loop
+add-at-requires c κs = (omega (arith, c .before .before .before .before .before .before .pre .1 .long, c .before .before .loop .inv .1 .below), omega (arith, c .before .before .before .before .before .before .pre .4, c .before .before .loop .inv .1 .added .same))
 
 add-around : tie.Need-add-around Inv-loop μ-loop
-add-around c = omega (arith, c .before .before .before .loop .inv .1 .below)
+add-around c = omega (arith, c .before .before .before .before .before .loop .inv .1 .below)
 
 around-requires : tie.Need-around-requires Inv-loop μ-loop
-around-requires c κs = omega (arith, c .before .before .before .loop .inv .1 .below, c .before .before .before .before .n-of .ensures)
+around-requires c κs = omega (arith, c .before .before .before .before .before .loop .inv .1 .below, c .before .before .before .before .before .before .n-of .ensures)
 
 add-j : tie.Need-add-j Inv-loop μ-loop
 add-j c = omega arith
@@ -49,7 +34,7 @@ loop-less : tie.Need-loop-less Inv-loop μ-loop
 loop-less c = omega arith
 
 loop-again : tie.Need-loop-again Inv-loop μ-loop
-loop-again c = let s = c .before .before .before .before .before .before .before .before in (omega arith, walked-next (s .pre .0) (c .before .before .before .before .loop .inv .1) (c .before .before .before .before .before .n-of .ensures) (omega arith) (omega arith) (s .pre .1 .holds _ (omega (arith, c .before .before .before .before .loop .inv .1 .below))) (c .around .ensures))
+loop-again c = let s = c .before .before .before .before .before .before .before .before .before .before in (omega arith, walked-by (c .before .before .before .add-at .ensures) (walked-next (s .pre .0) (c .before .before .before .before .before .before .loop .inv .1) (c .before .before .before .before .before .before .before .n-of .ensures) (omega arith) (omega (arith, s .pre .4)) (s .pre .1 .holds _ (omega (arith, c .before .before .before .before .before .before .loop .inv .1 .below))) (c .around .ensures)))
 
 same-length : tie.Need-same-length Inv-loop μ-loop
 same-length c = c .before .loop .inv .1 .added .same
@@ -65,12 +50,7 @@ add-first-spec =
     μ-loop
     n-of-requires
     loop-holds
-    mul-s
-    slice-read-s
-    mul-entries
-    shared-slice-read-entries
-    mul-entries-2
-    slice-write-entries
+    add-at-requires
     add-around
     around-requires
     add-j

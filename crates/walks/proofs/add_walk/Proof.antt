@@ -5,12 +5,12 @@ use native.Mathlib.Omega.{arith}
 use Rattle.walks.specs.Multiples.{Walked}
 use Rattle.field.proofs.Range.{sizes}
 use Rattle.field.proofs.Exponents.{around-below}
-use Rattle.walks.proofs.Walks.{walked-start, walked-to, walked-by, walked-four, strides, strides-within, walk-done}
+use Rattle.walks.proofs.Walks.{walked-start, walked-to, walked-on-by-four, Strides, strides, strides-within, walk-done}
 use Rattle.walks.proofs.add_walk.Statement.{statement}
 use Rattle.walks.proofs.add_walk.Tie as tie
 
 abbrev Inv-loop : tie.InvT-loop
-Inv-loop m powers from step count entries₀ n one two three four j₀ e₀ entries j e = (j₀ ≤ j) × (j ≤ count) × ((count - j) % 4 ≡ 0) × Walked m e₀ one j₀ (j - j₀) entries₀ e entries
+Inv-loop m powers from step count entries₀ n one two three four j₀ e₀ entries j e = (j₀ ≤ j) × (j ≤ count) × ((count - j) % 4 ≡ 0) × Strides m one n two three four × Walked m e₀ one j₀ (j - j₀) entries₀ e entries
 
 abbrev μ-loop : tie.MeasureT-loop
 μ-loop m powers from step count entries₀ n one two three four j₀ e₀ entries j e = count - j
@@ -43,25 +43,48 @@ add-first-requires : tie.Need-add-first-requires Inv-loop μ-loop
 add-first-requires c κs = let p = c .before .before .before .before .before .before .before .before .pre in (p .0, p .1, p .2, around-below (c .before .before .before .before .before .before .before .before .pre .0) (c .before .before .before .before .before .before .before .before .args .step) (c .before .before .before .before .before .n-of .ensures) (c .before .before .before .before .around .ensures), omega (arith, p .4))
 
 loop-holds : tie.Need-loop-holds Inv-loop μ-loop
-loop-holds c = (omega arith, omega arith, omega arith, walked-to (walked-start _ _ _ (c .before .before .add-first .ensures .below)) (omega arith))
+loop-holds c =
+    let p = c .before .before .before .before .before .before .before .before .before .before .before .pre in
+    let S = strides (c .before .before .before .before .before .before .before .before .before .before .before .args .step) (p .0) (c .before .before .before .before .before .before .before .before .n-of .ensures) (c .before .before .before .before .before .before .before .around .ensures) (c .before .before .before .before .before .before .around2 .ensures) (c .before .before .before .before .before .around3 .ensures) (c .before .before .before .before .around4 .ensures) in
+    (omega arith, omega arith, omega arith, S, walked-to (walked-start _ _ _ (c .before .before .add-first .ensures .below)) (omega arith))
 
 add-add-four : tie.Need-add-add-four Inv-loop μ-loop
-add-add-four c = let z = sizes (c .before .before .before .before .before .before .before .before .before .before .before .before .before .pre .0) in let b = strides-within (c .before .before .before .before .before .before .before .before .before .before .before .before .before .pre .0) (strides (c .before .before .before .before .before .before .before .before .before .before .before .before .before .args .step) (c .before .before .before .before .before .before .before .before .before .before .before .before .before .pre .0) (c .before .before .before .before .before .before .before .before .before .before .n-of .ensures) (c .before .before .before .before .before .before .before .before .before .around .ensures) (c .before .before .before .before .before .before .before .before .around2 .ensures) (c .before .before .before .before .before .before .before .around3 .ensures) (c .before .before .before .before .before .before .around4 .ensures)) (c .before .loop .inv .3 .below) in omega (arith, b .first)
+add-add-four c =
+    let L = c .before .before .before .before .before .before .before .before .before .before .before .before .before .pre .0 in
+    let z = sizes L in
+    omega (arith, strides-within L (c .before .loop .inv .3) (c .before .loop .inv .4 .below) .first)
 
 add-add-four-2 : tie.Need-add-add-four-2 Inv-loop μ-loop
-add-add-four-2 c = let z = sizes (c .before .before .before .before .before .before .before .before .before .before .before .before .before .pre .0) in let b = strides-within (c .before .before .before .before .before .before .before .before .before .before .before .before .before .pre .0) (strides (c .before .before .before .before .before .before .before .before .before .before .before .before .before .args .step) (c .before .before .before .before .before .before .before .before .before .before .before .before .before .pre .0) (c .before .before .before .before .before .before .before .before .before .before .n-of .ensures) (c .before .before .before .before .before .before .before .before .before .around .ensures) (c .before .before .before .before .before .before .before .before .around2 .ensures) (c .before .before .before .before .before .before .before .around3 .ensures) (c .before .before .before .before .before .before .around4 .ensures)) (c .before .loop .inv .3 .below) in omega (arith, b .second)
+add-add-four-2 c =
+    let L = c .before .before .before .before .before .before .before .before .before .before .before .before .before .pre .0 in
+    let z = sizes L in
+    omega (arith, strides-within L (c .before .loop .inv .3) (c .before .loop .inv .4 .below) .second)
 
 add-add-four-3 : tie.Need-add-add-four-3 Inv-loop μ-loop
-add-add-four-3 c = let z = sizes (c .before .before .before .before .before .before .before .before .before .before .before .before .before .pre .0) in let b = strides-within (c .before .before .before .before .before .before .before .before .before .before .before .before .before .pre .0) (strides (c .before .before .before .before .before .before .before .before .before .before .before .before .before .args .step) (c .before .before .before .before .before .before .before .before .before .before .before .before .before .pre .0) (c .before .before .before .before .before .before .before .before .before .before .n-of .ensures) (c .before .before .before .before .before .before .before .before .before .around .ensures) (c .before .before .before .before .before .before .before .before .around2 .ensures) (c .before .before .before .before .before .before .before .around3 .ensures) (c .before .before .before .before .before .before .around4 .ensures)) (c .before .loop .inv .3 .below) in omega (arith, b .third)
+add-add-four-3 c =
+    let L = c .before .before .before .before .before .before .before .before .before .before .before .before .before .pre .0 in
+    let z = sizes L in
+    omega (arith, strides-within L (c .before .loop .inv .3) (c .before .loop .inv .4 .below) .third)
 
 add-four-requires : tie.Need-add-four-requires Inv-loop μ-loop
-add-four-requires c κs = let p = c .before .before .before .before .before .before .before .before .before .before .before .before .before .before .pre in let b = strides-within (c .before .before .before .before .before .before .before .before .before .before .before .before .before .before .pre .0) (strides (c .before .before .before .before .before .before .before .before .before .before .before .before .before .before .args .step) (c .before .before .before .before .before .before .before .before .before .before .before .before .before .before .pre .0) (c .before .before .before .before .before .before .before .before .before .before .before .n-of .ensures) (c .before .before .before .before .before .before .before .before .before .before .around .ensures) (c .before .before .before .before .before .before .before .before .before .around2 .ensures) (c .before .before .before .before .before .before .before .before .around3 .ensures) (c .before .before .before .before .before .before .before .around4 .ensures)) (c .before .before .loop .inv .3 .below) in let l = c .before .before .loop .inv .3 .added .same in let k = c .before .before .before .before .before .add-first .ensures .added .same in (omega (arith, p .1 .long, c .before .before .loop .inv .3 .below), omega (arith, p .1 .long, b .first), omega (arith, p .1 .long, b .second), omega (arith, p .1 .long, b .third), omega (arith, p .4, l, k, c .before .before .loop .inv .2))
+add-four-requires c κs =
+    let p = c .before .before .before .before .before .before .before .before .before .before .before .before .before .before .pre in
+    let v = c .before .before .loop .inv in
+    let b = strides-within (p .0) (v .3) (v .4 .below) in
+    let l = p .1 .long in
+    (omega (arith, l, v .4 .below), omega (arith, l, b .first), omega (arith, l, b .second), omega (arith, l, b .third), omega (arith, p .4, v .4 .added .same, c .before .before .before .before .before .add-first .ensures .added .same, v .2))
 
 add-around-2 : tie.Need-add-around-2 Inv-loop μ-loop
-add-around-2 c = let z = sizes (c .before .before .before .before .before .before .before .before .before .before .before .before .before .before .before .before .before .pre .0) in let b = strides-within (c .before .before .before .before .before .before .before .before .before .before .before .before .before .before .before .before .before .pre .0) (strides (c .before .before .before .before .before .before .before .before .before .before .before .before .before .before .before .before .before .args .step) (c .before .before .before .before .before .before .before .before .before .before .before .before .before .before .before .before .before .pre .0) (c .before .before .before .before .before .before .before .before .before .before .before .before .before .before .n-of .ensures) (c .before .before .before .before .before .before .before .before .before .before .before .before .before .around .ensures) (c .before .before .before .before .before .before .before .before .before .before .before .before .around2 .ensures) (c .before .before .before .before .before .before .before .before .before .before .before .around3 .ensures) (c .before .before .before .before .before .before .before .before .before .before .around4 .ensures)) (c .before .before .before .before .before .loop .inv .3 .below) in omega (arith, b .third, b .fourth)
+add-around-2 c =
+    let L = c .before .before .before .before .before .before .before .before .before .before .before .before .before .before .before .before .before .pre .0 in
+    let z = sizes L in
+    let b = strides-within L (c .before .before .before .before .before .loop .inv .3) (c .before .before .before .before .before .loop .inv .4 .below) in
+    omega (arith, b .third, b .fourth)
 
 around-requires-5 : tie.Need-around-requires-5 Inv-loop μ-loop
-around-requires-5 c κs = let b = strides-within (c .before .before .before .before .before .before .before .before .before .before .before .before .before .before .before .before .before .pre .0) (strides (c .before .before .before .before .before .before .before .before .before .before .before .before .before .before .before .before .before .args .step) (c .before .before .before .before .before .before .before .before .before .before .before .before .before .before .before .before .before .pre .0) (c .before .before .before .before .before .before .before .before .before .before .before .before .before .before .n-of .ensures) (c .before .before .before .before .before .before .before .before .before .before .before .before .before .around .ensures) (c .before .before .before .before .before .before .before .before .before .before .before .before .around2 .ensures) (c .before .before .before .before .before .before .before .before .before .before .before .around3 .ensures) (c .before .before .before .before .before .before .before .before .before .before .around4 .ensures)) (c .before .before .before .before .before .loop .inv .3 .below) in omega (arith, b .third, b .fourth, c .before .before .before .before .before .before .before .before .before .before .before .before .before .before .n-of .ensures)
+around-requires-5 c κs =
+    let b = strides-within (c .before .before .before .before .before .before .before .before .before .before .before .before .before .before .before .before .before .pre .0) (c .before .before .before .before .before .loop .inv .3) (c .before .before .before .before .before .loop .inv .4 .below) in
+    omega (arith, b .third, b .fourth, c .before .before .before .before .before .before .before .before .before .before .before .before .before .before .n-of .ensures)
 
 add-j : tie.Need-add-j Inv-loop μ-loop
 add-j c = omega (arith, c .before .before .before .before .before .before .loop .inv .2)
@@ -70,13 +93,17 @@ loop-less : tie.Need-loop-less Inv-loop μ-loop
 loop-less c = omega (arith, c .before .before .before .before .before .before .loop .inv .2)
 
 loop-again : tie.Need-loop-again Inv-loop μ-loop
-loop-again c = let p = c .before .before .before .before .before .before .before .before .before .before .before .before .before .before .before .before .before .before .pre in let k = c .before .before .before .before .before .before .before .before .before .add-first .ensures .added .same in (omega arith, omega (arith, c .before .before .before .before .before .before .loop .inv .2), omega (arith, c .before .before .before .before .before .before .loop .inv .2), walked-by (c .before .before .before .add-four .ensures) (walked-to (walked-four (p .0) (strides (c .before .before .before .before .before .before .before .before .before .before .before .before .before .before .before .before .before .before .args .step) (c .before .before .before .before .before .before .before .before .before .before .before .before .before .before .before .before .before .before .pre .0) (c .before .before .before .before .before .before .before .before .before .before .before .before .before .before .before .n-of .ensures) (c .before .before .before .before .before .before .before .before .before .before .before .before .before .before .around .ensures) (c .before .before .before .before .before .before .before .before .before .before .before .before .before .around2 .ensures) (c .before .before .before .before .before .before .before .before .before .before .before .before .around3 .ensures) (c .before .before .before .before .before .before .before .before .before .before .before .around4 .ensures)) (p .1) (c .before .before .before .before .before .before .loop .inv .3) (omega (arith, c .before .before .before .before .before .before .loop .inv .0)) (omega (arith, p .4, k, c .before .before .before .before .before .before .loop .inv .2)) (c .around5 .ensures)) (omega (arith, c .before .before .before .before .before .before .loop .inv .0))))
+loop-again c =
+    let p = c .before .before .before .before .before .before .before .before .before .before .before .before .before .before .before .before .before .before .pre in
+    let v = c .before .before .before .before .before .before .loop .inv in
+    let k = c .before .before .before .before .before .before .before .before .before .add-first .ensures .added .same in
+    (omega arith, omega (arith, v .2), omega (arith, v .2), v .3, walked-on-by-four (p .0) (v .3) (p .1) (v .4) (omega (arith, v .0)) (omega (arith, p .4, k, v .2)) (c .around5 .ensures) (c .before .before .before .add-four .ensures) (omega (arith, v .0)))
 
 same-length : tie.Need-same-length Inv-loop μ-loop
-same-length c = c .before .loop .inv .3 .added .same ∙ c .before .before .before .before .add-first .ensures .added .same
+same-length c = c .before .loop .inv .4 .added .same ∙ c .before .before .before .before .add-first .ensures .added .same
 
 returns : tie.Need-returns Inv-loop μ-loop
-returns c = walk-done (c .before .before .before .before .before .before .before .before .before .before .before .before .before .args .from) (c .before .before .before .before .before .before .before .before .before .before .before .before .before .args .step) (c .before .before .before .before .before .before .before .before .before .before .before .before .before .pre .0) (c .before .before .before .before .before .before .before .before .before .before .n-of .ensures) (c .before .before .before .before .before .before .before .before .before .around .ensures) (c .before .before .before .before .add-first .ensures) (c .before .loop .inv .3 .added) (omega (arith, c .before .loop .inv .0, c .before .loop .inv .1))
+returns c = walk-done (c .before .before .before .before .before .before .before .before .before .before .before .before .before .args .from) (c .before .before .before .before .before .before .before .before .before .before .before .before .before .args .step) (c .before .before .before .before .before .before .before .before .before .before .before .before .before .pre .0) (c .before .before .before .before .before .before .before .before .before .before .n-of .ensures) (c .before .before .before .before .before .before .before .before .before .around .ensures) (c .before .before .before .before .add-first .ensures) (c .before .loop .inv .4 .added) (omega (arith, c .before .loop .inv .0, c .before .loop .inv .1))
 
 pub add-walk-spec : {M : Type 1} → statement M
 add-walk-spec =
