@@ -2,14 +2,14 @@
 
 ghost use Prim.Native.Nat.{_≤_};
 ghost use lib.ListN.{length};
-use crate::commands::Command;
-use crate::numbers::number_at;
-use crate::numbers::same;
 use crate::showing::not_understood;
 use crate::showing::show_bytes;
 use crate::showing::show_decoded;
 use crate::showing::show_lent_bytes;
 use crate::showing::show_number;
+use commands::names::Command;
+use commands::numbers::number_at;
+use commands::numbers::same;
 use kept::Kept;
 use workbench::room;
 use workbench::text::end_line;

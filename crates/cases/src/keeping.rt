@@ -1,10 +1,10 @@
 // The record: opened, spliced, and changed by hand.
 
 use crate::calling::call;
-use crate::commands::Command;
-use crate::numbers::number_at;
 use crate::showing::not_understood;
 use crate::showing::show_record;
+use commands::names::Command;
+use commands::numbers::number_at;
 use kept::Kept;
 
 fn open(line: u64, numbers: &[usize], word: &[u8], record: Kept) -> Kept {

@@ -4,9 +4,7 @@ ghost use mathlib.Core.Path.{_≡_};
 ghost use lib.ListN.{length};
 
 mod calling;
-mod commands;
 mod keeping;
-mod numbers;
 mod running;
 mod setting;
 mod showing;

@@ -3,14 +3,14 @@
 ghost use mathlib.Core.Path.{_≡_};
 ghost use Prim.Native.Nat.{_≤_};
 ghost use lib.ListN.{length};
-use crate::commands::Command;
-use crate::commands::command_of;
 use crate::keeping::keep;
-use crate::numbers::fill_numbers;
-use crate::numbers::find;
 use crate::setting::set_all;
 use crate::setting::set_places;
 use crate::showing::not_understood;
+use commands::names::Command;
+use commands::names::command_of;
+use commands::numbers::fill_numbers;
+use commands::numbers::find;
 use kept::Kept;
 use workbench::room;
 

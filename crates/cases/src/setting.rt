@@ -3,8 +3,8 @@
 ghost use mathlib.Core.Path.{_≡_};
 ghost use Prim.Native.Nat.{_≤_};
 ghost use lib.ListN.{length};
-use crate::numbers::number_at;
 use crate::showing::not_understood;
+use commands::numbers::number_at;
 
 fn fill(word: &mut [u8], value: u8)
     ensures { λ _. ⌜ length (now (word .exit)) ≡ length (now (word .entry)) ⌝ }

@@ -3,8 +3,8 @@ use mathlib.Core.Path.{_≡_}
 use Prim.Native.Nat.{_-_, _≤_}
 use lib.ListN.{length}
 use borrow.Author.Needs.{needs}
-use Rattle.cases.proofs.numbers.fill_numbers.Statement.{statement}
-use Rattle.cases.proofs.numbers.fill_numbers.Tie as tie
+use Rattle.commands.proofs.numbers.fill_numbers.Statement.{statement}
+use Rattle.commands.proofs.numbers.fill_numbers.Tie as tie
 
 abbrev Inv-loop : tie.InvT-loop
 Inv-loop line from numbers₀ count₀ at₀ numbers count at = (at ≤ length line) × (count ≤ length numbers) × (length numbers ≡ length numbers₀)

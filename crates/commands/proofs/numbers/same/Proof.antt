@@ -3,8 +3,8 @@ use mathlib.Core.Path.{_≡_}
 use Prim.Native.Nat.{_-_, _≤_}
 use lib.ListN.{length}
 use borrow.Author.Needs.{needs}
-use Rattle.cases.proofs.numbers.same.Statement.{statement}
-use Rattle.cases.proofs.numbers.same.Tie as tie
+use Rattle.commands.proofs.numbers.same.Statement.{statement}
+use Rattle.commands.proofs.numbers.same.Tie as tie
 
 abbrev Inv-loop : tie.InvT-loop
 Inv-loop x y i₀ i = (i ≤ length x) × (length x ≡ length y)

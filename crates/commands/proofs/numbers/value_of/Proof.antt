@@ -2,8 +2,8 @@
 use Prim.Native.Nat.{_-_, _≤_}
 use lib.ListN.{length}
 use borrow.Author.Needs.{needs}
-use Rattle.cases.proofs.numbers.value_of.Statement.{statement}
-use Rattle.cases.proofs.numbers.value_of.Tie as tie
+use Rattle.commands.proofs.numbers.value_of.Statement.{statement}
+use Rattle.commands.proofs.numbers.value_of.Tie as tie
 
 abbrev Inv-loop : tie.InvT-loop
 Inv-loop digits value₀ i₀ value i = i ≤ length digits

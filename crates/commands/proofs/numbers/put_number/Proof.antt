@@ -3,8 +3,8 @@ use native.Mathlib.Omega.{arith}
 use lib.ListN.{length-set}
 use borrow.Author.Tests.{ltb-true}
 use borrow.Author.Needs.{needs}
-use Rattle.cases.proofs.numbers.put_number.Statement.{statement}
-use Rattle.cases.proofs.numbers.put_number.Tie as tie
+use Rattle.commands.proofs.numbers.put_number.Statement.{statement}
+use Rattle.commands.proofs.numbers.put_number.Tie as tie
 
 mul-numbers : tie.Need-mul-numbers
 mul-numbers c = search needs

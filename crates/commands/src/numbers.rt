@@ -5,7 +5,7 @@ ghost use Prim.Native.Nat.{_≤_};
 ghost use lib.ListN.{length};
 
 // The first place from `from` on that holds this byte, or the end.
-pub(crate) fn find(text: &[u8], from: usize, byte: u8) -> usize
+pub fn find(text: &[u8], from: usize, byte: u8) -> usize
     requires { ⌜ from ≤ length (now text) ⌝ }
     ensures { λ r. ⌜ (from ≤ r) × (r ≤ length (now (text .entry))) ⌝ }
 {
@@ -19,7 +19,7 @@ pub(crate) fn find(text: &[u8], from: usize, byte: u8) -> usize
     i
 }
 
-pub(crate) fn same(x: &[u8], y: &[u8]) -> bool {
+pub fn same(x: &[u8], y: &[u8]) -> bool {
     if x.len() != y.len() {
         return false;
     }
@@ -85,13 +85,13 @@ fn put_number(numbers: &mut [usize], count: usize, value: Value) -> usize
 }
 
 // Whether a line has numbers only, as many as there is room for, and how many were found.
-pub(crate) struct Found {
-    pub(crate) is_all: bool,
-    pub(crate) count: usize,
+pub struct Found {
+    pub is_all: bool,
+    pub count: usize,
 }
 
 // The numbers of a line from there on, each after one blank.
-pub(crate) fn fill_numbers(line: &[u8], from: usize, numbers: &mut [usize]) -> Found
+pub fn fill_numbers(line: &[u8], from: usize, numbers: &mut [usize]) -> Found
     requires { ⌜ from ≤ length (now line) ⌝ }
     ensures { λ r. ⌜ r .count ≤ length (now (numbers .exit)) ⌝ }
 {
@@ -117,7 +117,7 @@ pub(crate) fn fill_numbers(line: &[u8], from: usize, numbers: &mut [usize]) -> F
 }
 
 // The number there, or 0 where there is none.
-pub(crate) fn number_at(numbers: &[usize], place: usize) -> usize {
+pub fn number_at(numbers: &[usize], place: usize) -> usize {
     if place < numbers.len() {
         return numbers[place];
     }

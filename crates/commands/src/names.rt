@@ -2,7 +2,7 @@
 
 use crate::numbers::same;
 
-pub(crate) enum Command {
+pub enum Command {
     Word,
     Fill,
     Stretch,
@@ -52,7 +52,7 @@ fn call_of(name: &[u8]) -> Command {
     Command::Unknown
 }
 
-pub(crate) fn command_of(name: &[u8]) -> Command {
+pub fn command_of(name: &[u8]) -> Command {
     if same(name, b"word") {
         return Command::Word;
     }
