@@ -6,7 +6,7 @@
 int main(int count, char **words) {
     const char *wanted = count == 2 ? words[1] : "";
     if (strcmp(wanted, "ns") == 0)
-        each_case(measure_ns);
+        measure_all_ns();
     else if (strcmp(wanted, "instructions") == 0)
         each_case(measure_instructions);
     else if (strcmp(wanted, "stack") == 0)

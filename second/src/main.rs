@@ -5,25 +5,37 @@ use second::{cases, keeping, making, mending, night, noise, trials};
 use std::io::{Read, Write};
 
 fn main() {
-    let subject = std::env::args().nth(1).unwrap_or_default();
+    let mut words = std::env::args().skip(1);
+    let subject = words.next().unwrap_or_default();
     let bytes = match subject.as_str() {
         "keeping" => keeping::text().into_bytes(),
         "mending" => mending::text().into_bytes(),
         "trials" => trials::text().into_bytes(),
         "night" => night::frames(1),
         "nights" => night::frames(6),
+        "million" => million(words.next()),
         "noise" => noise::text().into_bytes(),
         "cases" => cases::text(&standard_input()).into_bytes(),
         "making" => frames_of_lines(),
         "listing" => Link::new().listing(&standard_input()).into_bytes(),
-        _ => {
-            eprintln!("usage: second keeping|mending|trials|night|nights|noise, second cases < TEXT, second listing < FRAMES, or second making < LINES");
-            std::process::exit(2);
-        }
+        _ => usage(),
     };
     std::io::stdout()
         .write_all(&bytes)
         .expect("standard output takes the text");
+}
+
+fn usage() -> ! {
+    eprintln!("usage: second keeping|mending|trials|night|nights|noise, second million WRONG, second cases < TEXT, second listing < FRAMES, or second making < LINES");
+    std::process::exit(2);
+}
+
+/// A million frames, each with as many wrong bits as the word says, at most all 255.
+fn million(word: Option<String>) -> Vec<u8> {
+    match word.map(|word| word.parse()) {
+        Some(Ok(wrong @ 0..=255)) => night::spoiled(1_000_000, wrong),
+        _ => usage(),
+    }
 }
 
 /// The frames of typed lines; the lines that are refused are named on standard error.

@@ -20,6 +20,25 @@ pub fn frames(nights: u16) -> Vec<u8> {
     bytes
 }
 
+/// So many frames of made-up readings, each with exactly so many wrong bits.
+pub fn spoiled(count: u32, wrong: usize) -> Vec<u8> {
+    let link = Link::new();
+    let mut made_up = MadeUp::new(20261115);
+    let mut bytes = Vec::new();
+    for number in 0..count {
+        let house = (number % (1 << 16)) as u16;
+        let reading = Reading {
+            house,
+            poll: (number >> 16) as u16,
+            counter: counter(house, &mut made_up),
+        };
+        let mut frame = link.make(reading);
+        flip(&mut frame, wrong, wrong, &mut made_up);
+        bytes.extend(frame);
+    }
+    bytes
+}
+
 fn frame(link: &Link, house: u16, poll: u16, made_up: &mut MadeUp) -> [u8; FRAME_BYTES] {
     let reading = Reading {
         house: house * 1021,
@@ -62,4 +81,21 @@ fn all_ones() -> [u8; FRAME_BYTES] {
     let mut frame = [255; FRAME_BYTES];
     frame[FRAME_BYTES - 1] = 254;
     frame
+}
+
+#[cfg(test)]
+mod tests {
+    use super::*;
+
+    #[test]
+    fn spoiled_frames_have_so_many_wrong() {
+        let link = Link::new();
+        for wrong in [0, 5, 23] {
+            let bytes = spoiled(20, wrong);
+            assert_eq!(bytes.len(), 20 * FRAME_BYTES);
+            for frame in bytes.chunks(FRAME_BYTES) {
+                assert_eq!(link.read(frame).map(|read| read.1), Ok(wrong));
+            }
+        }
+    }
 }
