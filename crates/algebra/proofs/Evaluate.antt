@@ -1,10 +1,10 @@
 -- Powers, and the value of a polynomial: additive, multiplicative, and free of the bound past the degree.
-use mathlib.Core.Path.{_≡_, _∙_, refl, sym}
+use mathlib.Core.Path.{_≡_, refl}
 use Prim.Native.Nat.{ℕ, zero, suc, _+_, _≤_}
-use native.Mathlib.Nat.{zero-add, suc-add}
+use native.Mathlib.Nat.{suc-add}
 use native.Mathlib.Omega.{arith}
 use Rattle.algebra.specs.Ring.{Ring}
-use Rattle.algebra.specs.Series.{Series, tail, shift, scale, zeroSeries, oneSeries, ZeroFrom, EqualBelow, evaluate, power}
+use Rattle.algebra.specs.Series.{Series, tail, shift, scale, zeroSeries, oneSeries, ZeroFrom, evaluate, power}
 use Rattle.algebra.proofs.Ring.{ring, zero-product}
 use Rattle.algebra.proofs.Series.{series, one-zero, tail-one, shift-zero, tail-shift, split-product, monomial, monomial-zero, monomial-suc}
 use Rattle.algebra.proofs.Degree.{zero-from-zero}
@@ -22,19 +22,6 @@ module _ (K : Ring) where
   pub power-suc : (y : El) (e : ℕ) → power K y (suc e) ≡ y ⊗ power K y e
   unfolding power
   power-suc y e = refl
-
-  pub power-sum : (y : El) (i j : ℕ) → power K y (i + j) ≡ power K y i ⊗ power K y j
-  power-sum y zero j = rw (zero-add j, power-zero y) (simp (ring, K))
-  power-sum y (suc i) j = rw (suc-add i j, power-suc y (i + j), power-suc y i, power-sum y i j) (simp (ring, K))
-
-  pub power-of-product : (x y : El) (e : ℕ) → power K (x ⊗ y) e ≡ power K x e ⊗ power K y e
-  power-of-product x y zero = rw (power-zero (x ⊗ y), power-zero x, power-zero y) (simp (ring, K))
-  power-of-product x y (suc e) =
-      rw (power-suc (x ⊗ y) e, power-suc x e, power-suc y e, power-of-product x y e) (simp (ring, K))
-
-  pub power-of-one : (e : ℕ) → power K 𝟙 e ≡ 𝟙
-  power-of-one zero = power-zero 𝟙
-  power-of-one (suc e) = rw (power-suc 𝟙 e, power-of-one e) (simp (ring, K))
 
   pub evaluate-zero : (p : Series K) (y : El) → evaluate K zero p y ≡ 𝟘
   unfolding evaluate
@@ -60,12 +47,6 @@ module _ (K : Ring) where
 
   pub evaluate-shift : (d : ℕ) (p : Series K) (y : El) → evaluate K (suc d) (shift K p) y ≡ y ⊗ evaluate K d p y
   evaluate-shift d p y = rw (evaluate-suc d (shift K p) y, shift-zero K p, tail-shift K p) (simp (ring, K))
-
-  -- only places below d are read
-  pub evaluate-below : (d : ℕ) (p q : Series K) (y : El) → EqualBelow K d p q → evaluate K d p y ≡ evaluate K d q y
-  evaluate-below zero p q y e = evaluate-zero p y ∙ sym (evaluate-zero q y)
-  evaluate-below (suc d) p q y e =
-      rw (evaluate-suc d p y, evaluate-suc d q y, e zero (omega arith), evaluate-below d (tail K p) (tail K q) y (λ n h. e (suc n) (omega arith)))
 
   pub evaluate-null : (d : ℕ) (y : El) → evaluate K d (zeroSeries K) y ≡ 𝟘
   evaluate-null zero y = evaluate-zero (zeroSeries K) y

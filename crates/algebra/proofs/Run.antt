@@ -1,9 +1,8 @@
 -- What the key equation's run keeps: σ and B, times the sums, are short modulo the place reached, and together make x^r.
 use mathlib.Core.Path.{_≡_, _∙_, refl, sym, ap, ap₂}
-use mathlib.Core.Logic.{_≢_, ⊎-elim}
+use mathlib.Core.Logic.{_≢_}
 use mathlib.Core.Bool.{Bool, true, false, not}
 use Prim.Native.Nat.{ℕ, zero, suc, _+_, _-_, _*_, _≤_, _<_}
-use native.Mathlib.Nat.{le-refl, le-trans, eq-or-lt-of-le, le-of-suc-le-suc}
 use native.Mathlib.Omega.{arith}
 use lib.Dec.{T, leb, leb→le, nleb→lt}
 use Rattle.algebra.specs.Ring.{Ring, Field}
@@ -282,18 +281,3 @@ module _ (F : Field) (S : Series (F .ring)) where
 
   pub run-length : (r : ℕ) → run F S r .L ≤ r
   run-length r = run-keeps r .short
-
-  step-grows : (r : ℕ) (s : State F) → s .L ≤ step F S r s .L
-  step-grows r s = rw (step-is r s) (by-grows (zero? (discrepancy F S r s)))
-    where
-      corrected-grows : (b : Bool) → (T b → 2 * s .L ≤ r) → (d : El) → s .L ≤ corrected F b d r s .L
-      corrected-grows true t d = let h : 2 * s .L ≤ r = t tt in omega arith
-      corrected-grows false t d = omega arith
-
-      by-grows : (e : Dec (discrepancy F S r s ≡ 𝟘)) → s .L ≤ stepBy F (discrepancy F S r s) e r s .L
-      by-grows (yes h) = omega arith
-      by-grows (no h) = corrected-grows (leb (2 * s .L) r) (leb→le (2 * s .L) r) (discrepancy F S r s)
-
-  pub run-grows : (r e : ℕ) → r ≤ e → run F S r .L ≤ run F S e .L
-  run-grows r zero h = let z : r ≡ zero = omega arith in rw z (le-refl _)
-  run-grows r (suc e) h = ⊎-elim (λ z. rw z (le-refl _)) (λ l. rw (run-suc e) (le-trans (run-grows r e (le-of-suc-le-suc l)) (step-grows e (run F S e)))) (eq-or-lt-of-le h)

@@ -1,6 +1,6 @@
 -- The laws of lists of bits: lengths, what stands at a place, and that bits stay bits.
 use mathlib.Core.Path.{_≡_, _∙_, refl, sym, ap, ap₂, subst}
-use mathlib.Core.Logic.{_≢_, _↔_}
+use mathlib.Core.Logic.{_≢_}
 use mathlib.Core.Bool.{Bool, true, false, cond}
 use mathlib.Core.List.{List, [], _∷_, _++_, map}
 use Prim.Native.Nat.{ℕ, zero, suc, _+_, _-_, _*_, _≤_, _<_}
@@ -329,16 +329,7 @@ firstAbove-most (x ∷ xs) = pick (decLe x 1) (firstAbove-most xs)
     pick (yes h) l = rw (firstAbove-bit xs h) (omega arith)
     pick (no h) l = rw (firstAbove-above xs (lt-of-not-le h)) (omega arith)
 
--- the place found holds more than 1
-pub firstAbove-holds : (xs : List ℕ) → firstAbove xs < length xs → 1 < getD xs (firstAbove xs) 0
-firstAbove-holds [] l = absurd (omega arith)
-firstAbove-holds (x ∷ xs) l = pick (decLe x 1) (firstAbove-holds xs)
-  where
-    pick : Dec (x ≤ 1) → (firstAbove xs < length xs → 1 < getD xs (firstAbove xs) 0) → 1 < getD (x ∷ xs) (firstAbove (x ∷ xs)) 0
-    pick (yes h) rest = rw (firstAbove-bit xs h) (rest (omega (arith, firstAbove-bit xs h)))
-    pick (no h) rest = rw (firstAbove-above xs (lt-of-not-le h)) (omega arith)
-
--- and the places before it hold bits
+-- the places before the one found hold bits
 pub firstAbove-before : (xs : List ℕ) (i : ℕ) → i < firstAbove xs → getD xs i 0 ≤ 1
 firstAbove-before [] i l = omega arith
 firstAbove-before (x ∷ xs) i l = pick (decLe x 1) (firstAbove-before xs) i l
@@ -358,9 +349,6 @@ bits-of-firstAbove xs e = record { at = λ i. pick i (decLe (suc i) (length xs))
 pub firstAbove-of-bits : (xs : List ℕ) → AreBits xs → firstAbove xs ≡ length xs
 firstAbove-of-bits [] b = firstAbove-nil
 firstAbove-of-bits (x ∷ xs) b = firstAbove-bit xs (bits-head b) ∙ ap suc (firstAbove-of-bits xs (bits-tail b))
-
-pub bits-exactly : (xs : List ℕ) → (firstAbove xs ≡ length xs) ↔ AreBits xs
-bits-exactly xs = (bits-of-firstAbove xs, firstAbove-of-bits xs)
 
 -- a search that has come to the end has found nothing
 pub all-bits : (xs : List ℕ) {bad : ℕ} → bad ≡ firstAbove xs → length xs ≤ bad → AreBits xs

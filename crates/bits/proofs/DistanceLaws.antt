@@ -8,12 +8,12 @@ use native.Mathlib.Nat.{suc-inj}
 use native.Mathlib.Decide.{ℕ-discrete}
 use native.Mathlib.Omega.{arith}
 use lib.Dec.{T, eqb, eqb→eq, eqb-refl}
-use lib.ListN.{length, getD, set, take, drop, length-map, List·getD-eq-default}
+use lib.ListN.{length, getD, set, take, drop, List·getD-eq-default}
 use lib.Seq.{ext-getD}
 use Rattle.bits.specs.Bits.{AreBits, flip, flipped}
 use Rattle.bits.specs.Differences.{differencesFrom, differences, distance, Ascending}
 use Rattle.bits.proofs.BitLaws.{bits-head, bits-tail, length-flip, flip-at, flip-other, flipped-nil, flipped-cons, length-flipped}
-use Rattle.bits.proofs.Places.{member?, index-of, later-member, member-later, ascending-later, ascending-same}
+use Rattle.bits.proofs.Places.{member?, later-member, member-later, ascending-later, ascending-same}
 
 -- the clauses
 
@@ -184,39 +184,8 @@ distance-length xs ys = refl
 pub distance-self : (xs : List ℕ) → distance xs xs ≡ 0
 distance-self xs = distance-length xs xs ∙ ap length (differences-self xs)
 
-pub distance-zero : (xs ys : List ℕ) → length xs ≡ length ys → distance xs ys ≡ 0 → xs ≡ ys
-distance-zero xs ys l h = ext-getD 0 xs ys l (λ i k. pick i (ℕ-discrete (getD xs i 0) (getD ys i 0)))
-  where
-    pick : (i : ℕ) → Dec (getD xs i 0 ≡ getD ys i 0) → getD xs i 0 ≡ getD ys i 0
-    pick i (yes e) = e
-    pick i (no n) = absurd (omega (arith, distance-length xs ys, index-of (differences xs ys) (differences-member xs ys l i n) .1))
-
 pub distance-comm : (xs ys : List ℕ) → distance xs ys ≡ distance ys xs
 distance-comm xs ys = distance-length xs ys ∙ ap length (differences-comm xs ys) ∙ sym (distance-length ys xs)
-
-distance-same : {x y : ℕ} (xs ys : List ℕ) → x ≡ y → distance (x ∷ xs) (y ∷ ys) ≡ distance xs ys
-distance-same {x} {y} xs ys e = distance-length (x ∷ xs) (y ∷ ys) ∙ ap length (differences-same xs ys e) ∙ length-map (differences xs ys) suc ∙ sym (distance-length xs ys)
-
-distance-other : {x y : ℕ} (xs ys : List ℕ) → x ≢ y → distance (x ∷ xs) (y ∷ ys) ≡ suc (distance xs ys)
-distance-other {x} {y} xs ys n =
-    distance-length (x ∷ xs) (y ∷ ys) ∙ ap length (differences-other xs ys n) ∙ ap suc (length-map (differences xs ys) suc ∙ sym (distance-length xs ys))
-
-pub distance-triangle : (xs ys zs : List ℕ) → length xs ≡ length ys → length ys ≡ length zs → distance xs zs ≤ distance xs ys + distance ys zs
-distance-triangle [] ys zs h l = omega (arith, distance-length [] zs, ap length (differences-nil zs))
-distance-triangle (x ∷ xs) [] zs h l = absurd (omega arith)
-distance-triangle (x ∷ xs) (y ∷ ys) [] h l = absurd (omega arith)
-distance-triangle (x ∷ xs) (y ∷ ys) (z ∷ zs) h l =
-    pick (ℕ-discrete x y) (ℕ-discrete y z) (ℕ-discrete x z) (distance-triangle xs ys zs (suc-inj h) (suc-inj l))
-  where
-    pick : Dec (x ≡ y) → Dec (y ≡ z) → Dec (x ≡ z) → distance xs zs ≤ distance xs ys + distance ys zs
-        → distance (x ∷ xs) (z ∷ zs) ≤ distance (x ∷ xs) (y ∷ ys) + distance (y ∷ ys) (z ∷ zs)
-    pick (yes p) (yes q) r k = omega (arith, distance-same xs ys p, distance-same ys zs q, distance-same xs zs (p ∙ q))
-    pick (yes p) (no q) (yes r) k = omega (arith, distance-same xs ys p, distance-other ys zs q, distance-same xs zs r)
-    pick (yes p) (no q) (no r) k = omega (arith, distance-same xs ys p, distance-other ys zs q, distance-other xs zs r)
-    pick (no p) (yes q) (yes r) k = omega (arith, distance-other xs ys p, distance-same ys zs q, distance-same xs zs r)
-    pick (no p) (yes q) (no r) k = omega (arith, distance-other xs ys p, distance-same ys zs q, distance-other xs zs r)
-    pick (no p) (no q) (yes r) k = omega (arith, distance-other xs ys p, distance-other ys zs q, distance-same xs zs r)
-    pick (no p) (no q) (no r) k = omega (arith, distance-other xs ys p, distance-other ys zs q, distance-other xs zs r)
 
 -- flipping
 

@@ -21,19 +21,12 @@ member? p (q ∷ ps) = pick (ℕ-discrete p q) (member? p ps)
         other (inl d) = e d
         other (inr l) = k l
 
--- a member stands at some index, and what stands at an index is a member
+-- what stands at an index is a member
 
 pub member-at : (ps : List ℕ) (i : ℕ) → i < length ps → List·Memᴰ (getD ps i 0) ps
 member-at [] i h = absurd (omega arith)
 member-at (p ∷ ps) zero h = List·Memᴰ·head refl
 member-at (p ∷ ps) (suc i) h = List·Memᴰ·tail (member-at ps i (omega arith))
-
-pub index-of : {p : ℕ} (ps : List ℕ) → List·Memᴰ p ps → (i : ℕ) × (i < length ps) × (getD ps i 0 ≡ p)
-index-of [] k = absurd (List·Memᴰ·not-nil k)
-index-of (q ∷ ps) (List·Memᴰ·head e) = (0, omega arith, sym e)
-index-of (q ∷ ps) (List·Memᴰ·tail k) =
-    let (i, l, e) = index-of ps k in
-    (suc i, omega arith, e)
 
 -- the places one further on
 
@@ -57,25 +50,6 @@ ascending-later (p ∷ ps) A = (above, ascending-later ps (A .1))
     above q k =
         let (r, e, l) = member-later ps k in
         omega (arith, e, A .0 r l)
-
--- by index
-
-pub ascending-at : (ps : List ℕ) → Ascending ps → (i j : ℕ) → i < j → j < length ps → getD ps i 0 < getD ps j 0
-ascending-at [] A i j h l = absurd (omega arith)
-ascending-at (p ∷ ps) A zero zero h l = absurd (omega arith)
-ascending-at (p ∷ ps) A zero (suc j) h l = A .0 (getD ps j 0) (member-at ps j (omega arith))
-ascending-at (p ∷ ps) A (suc i) zero h l = absurd (omega arith)
-ascending-at (p ∷ ps) A (suc i) (suc j) h l = ascending-at ps (A .1) i j (omega arith) (omega arith)
-
-first-above : (p : ℕ) (ps : List ℕ) → ((i : ℕ) → suc i < suc (length ps) → getD (p ∷ ps) i 0 < getD ps i 0) → (q : ℕ) → List·Memᴰ q ps → p < q
-first-above p [] h q k = absurd (List·Memᴰ·not-nil k)
-first-above p (r ∷ ps) h q (List·Memᴰ·head e) = omega (arith, h 0 (omega arith))
-first-above p (r ∷ ps) h q (List·Memᴰ·tail k) = omega (arith, h 0 (omega arith), first-above r ps (λ i l. h (suc i) (omega arith)) q k)
-
--- it is enough to look at neighbours
-pub ascending-of : (ps : List ℕ) → ((i : ℕ) → suc i < length ps → getD ps i 0 < getD ps (suc i) 0) → Ascending ps
-ascending-of [] h = tt
-ascending-of (p ∷ ps) h = (first-above p ps h, ascending-of ps (λ i l. h (suc i) (omega arith)))
 
 -- two ascending lists with the same members are the same list
 

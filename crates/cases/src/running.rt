@@ -7,10 +7,10 @@ use crate::keeping::keep;
 use crate::setting::set_all;
 use crate::setting::set_places;
 use crate::showing::not_understood;
+use bytes::scan;
 use commands::names::Command;
 use commands::names::command_of;
 use commands::numbers::fill_numbers;
-use commands::numbers::find;
 use kept::Kept;
 use workbench::room;
 
@@ -84,10 +84,10 @@ fn run_line(line: u64, text: &[u8], word: &mut [u8], stretch: &mut [u8], bench: 
     requires { ⌜ (bench .word ≤ length (now word)) × (bench .stretch ≤ length (now stretch)) ⌝ }
     ensures { λ r. ⌜ (r .word ≤ length (now (word .exit))) × (r .stretch ≤ length (now (stretch .exit))) ⌝ }
 {
-    if find(text, 0, b'#') == 0 {
+    if scan::find(text, 0, text.len(), b'#') == 0 {
         return bench;
     }
-    let end = find(text, 0, b' ');
+    let end = scan::find(text, 0, text.len(), b' ');
     let mut numbers = number_space();
     let found = fill_numbers(text, end, &mut numbers);
     let count = found.count;
@@ -107,7 +107,7 @@ fn run_lines(text: &[u8], word: &mut [u8], stretch: &mut [u8])
     let mut at = 0;
     while at < text.len() {
         line += 1;
-        let end = find(text, at, b'\n');
+        let end = scan::find(text, at, text.len(), b'\n');
         bench = run_line(line, &text[at..end], word, stretch, bench);
         at = end + 1;
     }

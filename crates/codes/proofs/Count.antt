@@ -17,17 +17,6 @@ count-unique (hit p x) (miss q y) = absurd (q p)
 count-unique (miss p x) (hit q y) = absurd (p q)
 count-unique (miss p x) (miss q y) = count-unique x y
 
--- only what P says below n matters
-pub count-same : {P Q : ℕ → Type 0} {n c : ℕ} → ((x : ℕ) → x < n → P x ↔ Q x) → Count P n c → Count Q n c
-count-same f none = none
-count-same f (hit {n} p x) = hit (f n (omega arith) .0 p) (count-same (λ y h. f y (omega arith)) x)
-count-same f (miss {n} p x) = miss (λ q. p (f n (omega arith) .1 q)) (count-same (λ y h. f y (omega arith)) x)
-
-pub count-most : {P : ℕ → Type 0} {n c : ℕ} → Count P n c → c ≤ n
-count-most none = omega arith
-count-most (hit p x) = omega (arith, count-most x)
-count-most (miss p x) = omega (arith, count-most x)
-
 pub count-nothing : {P : ℕ → Type 0} (n : ℕ) → ((x : ℕ) → P x → ⊥) → Count P n 0
 count-nothing zero f = none
 count-nothing (suc n) f = miss (f n) (count-nothing n f)

@@ -1,9 +1,8 @@
 -- The laws of the sums of a word: clauses, linearity, flips, squares, exponents modulo n.
 use mathlib.Core.Path.{_≡_, _∙_, refl, sym, ap, ap₂}
-use mathlib.Core.Logic.{_≢_}
 use mathlib.Core.List.{List, [], _∷_, _++_, List·Memᴰ, List·Memᴰ·head, List·Memᴰ·tail}
 use Prim.Native.Nat.{ℕ, zero, suc, _+_, _*_, _%_, _^_, _≤_, _<_, _-_, _/_}
-use native.Mathlib.Nat.{add-suc, zero-mul, one-mul, mul-one, mul-left-comm, suc-mul, add-mul, pow-suc, mod-lt}
+use native.Mathlib.Nat.{add-suc, zero-mul, one-mul, mul-one, mul-left-comm, suc-mul, add-mul, pow-suc}
 use native.Mathlib.Decide.{ℕ-discrete}
 use native.Mathlib.Omega.{arith}
 use lib.Bits.{bitXor}
@@ -16,10 +15,10 @@ use Rattle.bits.proofs.BitLaws.{addedAt-at, bit-cases, bits-head, bits-tail, bi
 use Rattle.field.specs.Sum.{_⊕_}
 use Rattle.field.specs.Product.{Listed, _⊗⟨_⟩_}
 use Rattle.field.specs.Power.{a, nOf, power}
-use Rattle.field.proofs.SumLaws.{xor-sum, sum, sum-self, sum-zero, zero-sum, sum-bound, equal-of-sum, sum-assoc}
-use Rattle.field.proofs.ProductLaws.{product, product-zero, zero-product, one-product, product-one, product-bound, product-left-comm, product-over, square-sum, product-rearrange}
-use Rattle.field.proofs.PowerLaws.{power-zero, power-add, power-mul, power-bound, power-one, power-even, one-bound, one-power, zero-power}
-use Rattle.field.proofs.Order.{power-mod, a-order, a-order-least, no-zero-divisors, eight-bound}
+use Rattle.field.proofs.SumLaws.{xor-sum, sum, sum-zero, zero-sum, sum-bound, sum-assoc}
+use Rattle.field.proofs.ProductLaws.{product, product-zero, zero-product, one-product, product-one, product-bound, product-over, square-sum, product-rearrange}
+use Rattle.field.proofs.PowerLaws.{power-zero, power-add, power-bound, power-one, power-even, one-bound, zero-power}
+use Rattle.field.proofs.Order.{power-mod}
 use Rattle.codes.specs.Sums.{sumFrom, sumOf, sumOver}
 
 -- the clauses
@@ -115,10 +114,6 @@ module _ {m : ℕ} (L : Listed m) where
   pub sum-bounded : (j : ℕ) (xs : List ℕ) → AreBits xs → sumOf m j xs < 2 ^ m
   sum-bounded j [] b = rw (sumOf-nil m j) (pow-pos m)
   sum-bounded j (x ∷ xs) b = rw (sum-cons j x xs b) (sum-bound m (bit-bound (bits-head b)) (product-bound L (power m a j) (sumOf m j xs)))
-
-  pub sumOver-bounded : (j : ℕ) (ps : List ℕ) → sumOver m j ps < 2 ^ m
-  sumOver-bounded j [] = rw (sumOver-nil m j) (pow-pos m)
-  sumOver-bounded j (p ∷ ps) = rw (sumOver-cons m j p ps) (sum-bound m (power-bound L a (p * j)) (sumOver-bounded j ps))
 
   next-power : (k j : ℕ) → power m a (suc k * j) ≡ power m a j ⊗⟨ m ⟩ power m a (k * j)
   next-power k j =
@@ -252,47 +247,6 @@ module _ {m : ℕ} (L : Listed m) where
   -- a sum that is 0 makes those of its class 0
   pub sum-class : (i e : ℕ) (xs : List ℕ) → AreBits xs → sumOf m i xs ≡ 0 → sumOf m (i * 2 ^ e % nOf m) xs ≡ 0
   sum-class i e xs b h = sum-residue i e xs b ∙ ap (λ z. power m z (2 ^ e)) h ∙ zero-power L (2 ^ e) (pow-pos e)
-
-  -- all places one
-
-  pair-shape : (x p r : ℕ) → x ⊕ p ⊕ (p ⊕ r) ≡ x ⊕ r
-  pair-shape x p r = simp sum
-
-  ones-shape : (p s q : ℕ) → p < 2 ^ m → (1 ⊕ p) ⊗⟨ m ⟩ s ≡ 1 ⊕ q → (1 ⊕ p) ⊗⟨ m ⟩ (1 ⊕ p ⊗⟨ m ⟩ s) ≡ 1 ⊕ p ⊗⟨ m ⟩ q
-  ones-shape p s q h e =
-      product-over m (1 ⊕ p) 1 (p ⊗⟨ m ⟩ s)
-      ∙ ap₂ (λ y z. y ⊕ z) (product-one L (1 ⊕ p) (sum-bound m (one-bound L) h))
-      (product-left-comm L (1 ⊕ p) p s
-      ∙ ap (λ z. p ⊗⟨ m ⟩ z) e
-      ∙ product-over m p 1 q
-      ∙ ap (λ z. z ⊕ p ⊗⟨ m ⟩ q) (product-one L p h))
-      ∙ pair-shape 1 p (p ⊗⟨ m ⟩ q)
-
-  -- the sum of a geometric row, times 1 ⊕ a^j
-  sum-row : (j s : ℕ) → (1 ⊕ power m a j) ⊗⟨ m ⟩ sumOf m j (replicate s 1) ≡ 1 ⊕ power m a (s * j)
-  sum-row j zero = rw (sumOf-nil m j, first-power j, product-zero m (1 ⊕ power m a j)) (sym (sum-self 1))
-  sum-row j (suc s) =
-      ap (λ z. (1 ⊕ power m a j) ⊗⟨ m ⟩ z) (sum-cons j 1 (replicate s 1) (bits-ones (suc s)))
-      ∙ ones-shape (power m a j) (sumOf m j (replicate s 1)) (power m a (s * j)) (power-bound L a j) (sum-row j s)
-      ∙ ap (λ z. 1 ⊕ z) (sym (next-power s j))
-
-  pub sum-ones : (j : ℕ) → j % nOf m ≢ 0 → sumOf m j (replicate (nOf m) 1) ≡ 0
-  sum-ones j h = pick (ℕ-discrete (sumOf m j ones) 0)
-    where
-      ones : List ℕ
-      ones = replicate (nOf m) 1
-
-      round : power m a (nOf m * j) ≡ 1
-      round = power-mul L a (nOf m) j ∙ ap (λ z. power m z j) (a-order L) ∙ one-power L j
-
-      not-one : 1 ⊕ power m a j ≢ 0
-      not-one e = a-order-least L (j % nOf m) (omega arith) (mod-lt j (omega (arith, eight-bound L))) (power-mod L j ∙ sym (equal-of-sum e))
-
-      pick : Dec (sumOf m j ones ≡ 0) → sumOf m j ones ≡ 0
-      pick (yes e) = e
-      pick (no e) =
-          absurd (no-zero-divisors L (1 ⊕ power m a j) (sumOf m j ones) (sum-bound m (one-bound L) (power-bound L a j)) (sum-bounded j ones (bits-ones (nOf m))) not-one e
-          (sum-row j (nOf m) ∙ ap (λ z. 1 ⊕ z) round ∙ sum-self 1))
 
 -- "Over bits S_(2j) is the square of S_j, so S_1, S_3, .. S_(2t-1) are enough."
 module _ {m : ℕ} (L : Listed m) (xs : List ℕ) (b : AreBits xs) (t : ℕ) (odd : (i : ℕ) → i < t → sumOf m (2 * i + 1) xs ≡ 0) where

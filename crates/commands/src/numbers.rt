@@ -1,23 +1,9 @@
-// Finding the words of a line and reading its decimal numbers.
+// Comparing words, and reading the decimal numbers of a line.
 
 ghost use mathlib.Core.Path.{_≡_};
 ghost use Prim.Native.Nat.{_≤_};
 ghost use lib.ListN.{length};
-
-// The first place from `from` on that holds this byte, or the end.
-pub fn find(text: &[u8], from: usize, byte: u8) -> usize
-    requires { ⌜ from ≤ length (now text) ⌝ }
-    ensures { λ r. ⌜ (from ≤ r) × (r ≤ length (now (text .entry))) ⌝ }
-{
-    let mut i = from;
-    while i < text.len() {
-        if text[i] == byte {
-            return i;
-        }
-        i += 1;
-    }
-    i
-}
+use bytes::scan;
 
 pub fn same(x: &[u8], y: &[u8]) -> bool {
     if x.len() != y.len() {
@@ -99,7 +85,7 @@ pub fn fill_numbers(line: &[u8], from: usize, numbers: &mut [usize]) -> Found
     let mut at = from;
     while at < line.len() {
         let start = at + 1;
-        let end = find(line, start, b' ');
+        let end = scan::find(line, start, line.len(), b' ');
         let next = put_number(numbers, count, value_of(&line[start..end]));
         if next == count {
             return Found {
