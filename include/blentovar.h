@@ -1,4 +1,4 @@
-/* The operations of Blentovar for C and C++: link target/staticlib/libcard.a.
+/* The operations of Blentovar for C and C++: link target/staticlib/libblentovar.a.
  *
  * Bits are lent one to a byte, 0 or 1, except in frames. Place i of a word is
  * the coefficient of x^i. The code of (m, t) has n = 2^m - 1 places, k of them

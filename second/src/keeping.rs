@@ -1,6 +1,6 @@
-//! What crates/keeping is to write: for every listed code, words edited, opened, spliced and decoded from what is kept.
+//! Words of a code edited, opened, spliced and decoded from what is kept.
 
-use crate::codes::{listed, Code};
+use crate::codes::Code;
 use crate::editing::edit;
 use crate::kept::{decode_kept, open, splice, Kept};
 use crate::made_up::MadeUp;
@@ -13,21 +13,13 @@ const ROUNDS: usize = 20;
 /// The longest stretch that is spliced in.
 const LONGEST: usize = 32;
 
-pub fn text() -> String {
-    let pairs = (3..=10).flat_map(|m| (0..=256).map(move |t| (m, t)));
-    let line = |(m, t)| listed(m, t).map(|code| code_line(m, &code));
-    let mut lines: Vec<String> = pairs.filter_map(line).collect();
-    lines.push(String::new());
-    lines.join("\n")
-}
-
 /// m, t, how many were mended and refused, the number of wrong places and the sum.
-fn code_line(m: u64, code: &Code) -> String {
+pub fn line(m: u64, code: &Code, generator: Vec<u8>) -> String {
     let mut trial = Trial {
         m,
         code,
-        generator: code.generator(),
-        made_up: MadeUp::new(m * 1000 + code.t as u64),
+        generator,
+        made_up: MadeUp::of(m, code),
         tally: Tally::default(),
     };
     for _ in 0..ROUNDS {

@@ -1,5 +1,7 @@
 //! Made-up bits and places, by a linear generator of numbers below 2^31.
 
+use crate::codes::Code;
+
 pub struct MadeUp {
     state: u64,
 }
@@ -7,6 +9,11 @@ pub struct MadeUp {
 impl MadeUp {
     pub fn new(start: u64) -> MadeUp {
         MadeUp { state: start }
+    }
+
+    /// Every code has words of its own.
+    pub fn of(m: u64, code: &Code) -> MadeUp {
+        MadeUp::new(m * 1000 + code.t as u64)
     }
 
     /// A number below the bound. The low bits of the state repeat too soon to be used.

@@ -1,16 +1,14 @@
 //! Writes what one of the proved programs is to print, the bytes that it is to read, or how often noise is taken for a reading.
 
 use second::frames::Link;
-use second::{cases, keeping, making, mending, night, noise, trials};
+use second::{cases, every_code, making, night, noise};
 use std::io::{Read, Write};
 
 fn main() {
     let mut words = std::env::args().skip(1);
     let subject = words.next().unwrap_or_default();
     let bytes = match subject.as_str() {
-        "keeping" => keeping::text().into_bytes(),
-        "mending" => mending::text().into_bytes(),
-        "trials" => trials::text().into_bytes(),
+        "every_code" => every_code::text().into_bytes(),
         "night" => night::frames(1),
         "nights" => night::frames(6),
         "million" => million(words.next()),
@@ -26,7 +24,7 @@ fn main() {
 }
 
 fn usage() -> ! {
-    eprintln!("usage: second keeping|mending|trials|night|nights|noise, second million WRONG, second cases < TEXT, second listing < FRAMES, or second making < LINES");
+    eprintln!("usage: second every_code|night|nights|noise, second million WRONG, second cases < TEXT, second listing < FRAMES, or second making < LINES");
     std::process::exit(2);
 }
 

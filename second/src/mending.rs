@@ -1,6 +1,6 @@
-//! What crates/mending is to write: every word of the two shortest fields decoded, and made-up words of every other listed code.
+//! Decode on every word of the two shortest fields, and on made-up words of every other code.
 
-use crate::codes::{listed, Code};
+use crate::codes::Code;
 use crate::euclid::{flipped, Decoder};
 use crate::made_up::MadeUp;
 use crate::tally::Tally;
@@ -9,21 +9,18 @@ use crate::{nearest, words};
 /// Ten words each.
 const ROUNDS: usize = 100;
 
-pub fn text() -> String {
-    let mut lines = block_lines(3, 1, 128);
-    for t in 1..=3 {
-        lines.extend(block_lines(4, t, 256));
+pub fn lines(m: u64, code: &Code, generator: &[u8]) -> Vec<String> {
+    match m {
+        3 => block_lines(m, code, 128),
+        4 => block_lines(m, code, 256),
+        _ => vec![code_line(m, code, generator)],
     }
-    lines.extend(code_lines());
-    lines.push(String::new());
-    lines.join("\n")
 }
 
 /// Every word of a short code by brute force, in blocks of this size.
-fn block_lines(m: u64, t: u64, size: u32) -> Vec<String> {
-    let code = listed(m, t).expect("a listed code");
-    let code_words = nearest::code_words(&code);
-    let block = |first| block_line(m, &code, &code_words, first, size);
+fn block_lines(m: u64, code: &Code, size: u32) -> Vec<String> {
+    let code_words = nearest::code_words(code);
+    let block = |first| block_line(m, code, &code_words, first, size);
     (0..1 << code.n).step_by(size as usize).map(block).collect()
 }
 
@@ -43,19 +40,12 @@ fn block_line(m: u64, code: &Code, code_words: &[u32], first: u32, size: u32) ->
     format!("block {m} {} {first} {refused} {wrong} {sum}", code.t)
 }
 
-fn code_lines() -> Vec<String> {
-    let pairs = (5..=10).flat_map(|m| (0..=256).map(move |t| (m, t)));
-    let line = |(m, t)| listed(m, t).map(|code| code_line(m, &code));
-    pairs.filter_map(line).collect()
-}
-
 /// m, t, how many were mended and refused, the number of wrong places and the sum.
-fn code_line(m: u64, code: &Code) -> String {
+fn code_line(m: u64, code: &Code, generator: &[u8]) -> String {
     let decoder = Decoder::new(code);
-    let generator = code.generator();
-    let mut made_up = MadeUp::new(m * 1000 + code.t as u64);
+    let mut made_up = MadeUp::of(m, code);
     let mut tally = Tally::default();
-    let received = (0..ROUNDS).flat_map(|_| round(&decoder, code, &generator, &mut made_up));
+    let received = (0..ROUNDS).flat_map(|_| round(&decoder, code, generator, &mut made_up));
     for word in received {
         tally.add(code, &word, decoder.wrong_places(&word));
     }

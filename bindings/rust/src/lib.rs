@@ -1,4 +1,4 @@
-//! The operations of Blentovar over slices, by the static library of the proved crate `card`.
+//! The operations of Blentovar over slices, by the static library of the proved crate `blentovar`.
 //!
 //! Bits are lent one to a byte, 0 or 1, except in frames; place i of a word is the coefficient of x^i. The code of (m, t) has n = 2^m - 1 places, k of them for the message, and mends up to t wrong places. Lengths are exact. After a refusal no lent buffer has changed.
 //!

@@ -7,7 +7,7 @@ use Prim.Native.Nat.{ℕ, zero, suc, _+_, _-_, _*_, _≤_, _<_}
 use native.Mathlib.Nat.{le-antisymm, zero-add, suc-add, lt-of-not-le, suc-inj, zero-mul, one-mul, mul-zero}
 use native.Mathlib.Decide.{decLe}
 use native.Mathlib.Omega.{arith}
-use borrow.Author.Tests.{le-ltb, ltb-false}
+use borrow.Author.Tests.{lt-ltb, le-ltb, ltb-false}
 use lib.Bits.{bitXor, xor-lt, xor-zero-r, xor-self, xor-comm}
 use lib.Dec.{T, leb, leb→le}
 use lib.ListN.{length, getD, set, take, drop, replicate, length-set, length-replicate, length-map, List·getD-eq-default}
@@ -360,3 +360,10 @@ not-bad {xs} b = le-ltb (firstAbove xs) (length xs) (omega (arith, firstAbove-of
 
 pub bits-of-not-bad : (xs : List ℕ) → hasBadBit xs ≡ false → AreBits xs
 bits-of-not-bad xs e = all-bits xs refl (ltb-false (firstAbove xs) (length xs) e)
+
+-- the check of lent bits, by the first place that holds more than 1
+pub bad-bit : (xs : List ℕ) {p : ℕ} → p ≡ firstAbove xs → p < length xs → hasBadBit xs ≡ true
+bad-bit xs e h = lt-ltb (firstAbove xs) (length xs) (rw (← e) h)
+
+pub no-bad-bit : (xs : List ℕ) {p : ℕ} → p ≡ firstAbove xs → length xs ≤ p → hasBadBit xs ≡ false
+no-bad-bit xs e h = le-ltb (firstAbove xs) (length xs) (rw (← e) h)

@@ -5,7 +5,7 @@ use mathlib.Core.List.{List, [], _∷_, map, List·Memᴰ, List·Memᴰ·head, L
 use Prim.Native.Nat.{ℕ, zero, suc, _<_}
 use native.Mathlib.Decide.{ℕ-discrete}
 use native.Mathlib.Omega.{arith}
-use lib.ListN.{length, getD}
+use lib.ListN.{length, getD, take}
 use Rattle.bits.specs.Differences.{Ascending}
 
 pub member? : (p : ℕ) (ps : List ℕ) → Dec (List·Memᴰ p ps)
@@ -27,6 +27,14 @@ pub member-at : (ps : List ℕ) (i : ℕ) → i < length ps → List·Memᴰ (ge
 member-at [] i h = absurd (omega arith)
 member-at (p ∷ ps) zero h = List·Memᴰ·head refl
 member-at (p ∷ ps) (suc i) h = List·Memᴰ·tail (member-at ps i (omega arith))
+
+-- a member of the first so many is a member
+
+pub member-take : {p : ℕ} (k : ℕ) (ps : List ℕ) → List·Memᴰ p (take k ps) → List·Memᴰ p ps
+member-take zero ps h = absurd (List·Memᴰ·not-nil h)
+member-take (suc k) [] h = h
+member-take (suc k) (q ∷ ps) (List·Memᴰ·head e) = List·Memᴰ·head e
+member-take (suc k) (q ∷ ps) (List·Memᴰ·tail h) = List·Memᴰ·tail (member-take k ps h)
 
 -- the places one further on
 
@@ -58,14 +66,16 @@ ascending-first {p} {q} ps qs A B (List·Memᴰ·head e) l = e
 ascending-first {p} {q} ps qs A B (List·Memᴰ·tail k) (List·Memᴰ·head e) = sym e
 ascending-first {p} {q} ps qs A B (List·Memᴰ·tail k) (List·Memᴰ·tail l) = absurd (omega (arith, A .0 q l, B .0 p k))
 
-rest-members : {p q : ℕ} (ps qs : List ℕ) → Ascending (p ∷ ps) → p ≡ q → ((r : ℕ) → List·Memᴰ r (p ∷ ps) → List·Memᴰ r (q ∷ qs)) → (r : ℕ) → List·Memᴰ r ps → List·Memᴰ r qs
+rest-members : {p q : ℕ} (ps qs : List ℕ) → Ascending (p ∷ ps) → p ≡ q → ((r : ℕ) → List·Memᴰ r (p ∷ ps) → List·Memᴰ r (q ∷ qs))
+    → (r : ℕ) → List·Memᴰ r ps → List·Memᴰ r qs
 rest-members {p} {q} ps qs A e h r k = pick (List·Memᴰ·cases-cons (h r (List·Memᴰ·tail k)))
   where
     pick : (r ≡ q) ⊎ List·Memᴰ r qs → List·Memᴰ r qs
     pick (inl d) = absurd (omega (arith, A .0 r k))
     pick (inr l) = l
 
-pub ascending-same : (ps qs : List ℕ) → Ascending ps → Ascending qs → ((p : ℕ) → List·Memᴰ p ps → List·Memᴰ p qs) → ((p : ℕ) → List·Memᴰ p qs → List·Memᴰ p ps) → ps ≡ qs
+pub ascending-same : (ps qs : List ℕ) → Ascending ps → Ascending qs → ((p : ℕ) → List·Memᴰ p ps → List·Memᴰ p qs)
+    → ((p : ℕ) → List·Memᴰ p qs → List·Memᴰ p ps) → ps ≡ qs
 ascending-same [] [] A B h l = refl
 ascending-same [] (q ∷ qs) A B h l = absurd (List·Memᴰ·not-nil (l q (List·Memᴰ·head refl)))
 ascending-same (p ∷ ps) [] A B h l = absurd (List·Memᴰ·not-nil (h p (List·Memᴰ·head refl)))

@@ -9,9 +9,11 @@ use borrow.Author.Tests.{lt-ltb, le-ltb}
 use lib.Bits.{bitXor}
 use lib.Dec.{ltb}
 use lib.ListN.{length, getD, set, take, drop, take-append-drop, List·getD-append}
-use lib.Seq.{paste, length-paste, length-paste-head, take-at, drop-at, take-append-le, drop-append-le, drop-paste, getD-take, getD-drop, getD-append-add, take-all, take-length, take-append-seam, length-take-le}
+use lib.Seq.{paste, length-paste, length-paste-head, take-at, drop-at, take-append-le, drop-append-le, drop-paste, getD-take}
+use lib.Seq.{getD-drop, getD-append-add, take-all, take-length, take-append-seam, length-take-le}
 use Rattle.bits.specs.Bits.{AreBits, added, addedAt, flip, flipped}
-use Rattle.bits.proofs.BitLaws.{bits-append, bits-take, bits-drop, added-none, added-cons, addedAt-zero, addedAt-cons, addedAt-nil, addedAt-after, flipped-nil, flipped-cons}
+use Rattle.bits.proofs.BitLaws.{bits-append, bits-take, bits-drop, added-none, added-cons, addedAt-zero, addedAt-cons}
+use Rattle.bits.proofs.BitLaws.{addedAt-nil, addedAt-after, flipped-nil, flipped-cons}
 
 added-more : (d s : List ℕ) (i : ℕ) → i < length d → i < length s → set (added d (take i s)) i (bitXor (getD d i 0) (getD s i 0)) ≡ added d (take (suc i) s)
 added-more [] s i h k = absurd (not-suc-le-zero h)

@@ -5,7 +5,7 @@ ghost use mathlib.Core.List.{List·Memᴰ};
 ghost use Prim.Native.Nat.{ℕ, _+_, _≤_, _<_};
 ghost use lib.ListN.{length, take, replicate};
 ghost use lib.Seq.{paste};
-ghost use Rattle.bits.specs.Bits.{AreBits, firstAbove, hasBadBit, runsPast, addedAt, flipped};
+ghost use Rattle.bits.specs.Bits.{AreBits, firstAbove, runsPast, addedAt, flipped};
 
 // The first place that holds more than 1, or the length where there is none.
 pub fn first_above_one(s: &[u8]) -> usize
@@ -19,14 +19,6 @@ pub fn first_above_one(s: &[u8]) -> usize
         i += 1;
     }
     i
-}
-
-// Whether a place holds more than 1.
-pub fn has_bad_bit(s: &[u8]) -> bool
-    ensures { λ r. ⌜ r ≡ hasBadBit (now (s .entry)) ⌝ }
-{
-    let bad = first_above_one(s);
-    bad < s.len()
 }
 
 // Adds src into dst from place `at` on.

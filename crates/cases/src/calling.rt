@@ -2,22 +2,23 @@
 
 ghost use Prim.Native.Nat.{_≤_};
 ghost use lib.ListN.{length};
+use crate::room;
+use crate::showing::end_line;
 use crate::showing::not_understood;
+use crate::showing::print;
+use crate::showing::print_number;
 use crate::showing::show_bytes;
 use crate::showing::show_decoded;
 use crate::showing::show_lent_bytes;
 use crate::showing::show_number;
 use commands::names::Command;
 use commands::numbers::number_at;
-use commands::numbers::same;
 use kept::Kept;
-use workbench::room;
-use workbench::text::end_line;
-use workbench::text::print;
-use workbench::text::print_number;
 
-fn describe_into(line: u64, m: usize, t: usize, generator: &mut [u8]) {
-    let answer = card::blentovar_describe(m, t, generator);
+fn describe_into(line: u64, m: usize, t: usize, generator: &mut [u8])
+    requires { ⌜ length (now generator) ≤ 2048 ⌝ }
+{
+    let answer = blentovar::blentovar_describe(m, t, generator);
     show_number(line, answer.number);
     print_number(answer.n as u64);
     print_number(answer.k as u64);
@@ -30,16 +31,18 @@ fn describe(line: u64, numbers: &[usize]) {
     let m = number_at(numbers, 0);
     let t = number_at(numbers, 1);
     let places = number_at(numbers, 2);
-    if numbers.len() == 3 && places <= 2048 {
-        let mut generator = room::lent_word();
-        describe_into(line, m, t, &mut generator[..places]);
-    } else {
+    if numbers.len() != 3 || places > 2048 {
         not_understood(line);
+        return;
     }
+    let mut generator = room::for_bytes(places);
+    describe_into(line, m, t, &mut generator[..places]);
 }
 
-fn encode_into(line: u64, m: usize, t: usize, message: &[u8], word: &mut [u8]) {
-    let number = card::blentovar_encode(m, t, message, word);
+fn encode_into(line: u64, m: usize, t: usize, message: &[u8], word: &mut [u8])
+    requires { ⌜ length (now word) ≤ 2048 ⌝ }
+{
+    let number = blentovar::blentovar_encode(m, t, message, word);
     show_number(line, number);
     print(b" word");
     show_lent_bytes(word);
@@ -50,16 +53,18 @@ fn encode(line: u64, numbers: &[usize], message: &[u8]) {
     let m = number_at(numbers, 0);
     let t = number_at(numbers, 1);
     let places = number_at(numbers, 2);
-    if numbers.len() == 3 && places <= 2048 {
-        let mut word = room::lent_word();
-        encode_into(line, m, t, message, &mut word[..places]);
-    } else {
+    if numbers.len() != 3 || places > 2048 {
         not_understood(line);
+        return;
     }
+    let mut word = room::for_bytes(places);
+    encode_into(line, m, t, message, &mut word[..places]);
 }
 
-fn decode_into(line: u64, m: usize, t: usize, received: &[u8], word: &mut [u8], list: &mut [u16]) {
-    let answer = card::blentovar_decode(m, t, received, word, list);
+fn decode_into(line: u64, m: usize, t: usize, received: &[u8], word: &mut [u8], list: &mut [u16])
+    requires { ⌜ (length (now word) ≤ 2048) × (length (now list) ≤ 1024) ⌝ }
+{
+    let answer = blentovar::blentovar_decode(m, t, received, word, list);
     show_decoded(line, answer, word, list);
 }
 
@@ -68,20 +73,20 @@ fn decode(line: u64, numbers: &[usize], received: &[u8]) {
     let t = number_at(numbers, 1);
     let places = number_at(numbers, 2);
     let listing = number_at(numbers, 3);
-    if numbers.len() == 4 && places <= 2048 && listing <= 1024 {
-        let mut word = room::lent_word();
-        let mut list = room::lent_list();
-        decode_into(
-            line,
-            m,
-            t,
-            received,
-            &mut word[..places],
-            &mut list[..listing],
-        );
-    } else {
+    if numbers.len() != 4 || places > 2048 || listing > 1024 {
         not_understood(line);
+        return;
     }
+    let mut word = room::for_bytes(places);
+    let mut list = room::for_list(listing);
+    decode_into(
+        line,
+        m,
+        t,
+        received,
+        &mut word[..places],
+        &mut list[..listing],
+    );
 }
 
 fn edit_copy(
@@ -95,11 +100,11 @@ fn edit_copy(
 )
     requires { ⌜ length (now word) ≤ length (now copy) ⌝ }
 {
-    bits::copy_at(copy, 0, word);
-    let number = card::blentovar_edit(m, t, copy, start, stretch);
+    bytes::copy(word, copy);
+    let number = blentovar::blentovar_edit(m, t, copy, start, stretch);
     show_number(line, number);
     print(b" word");
-    if same(copy, word) {
+    if check::same(copy, word) {
         print(b" kept");
     } else {
         show_bytes(copy);
@@ -113,33 +118,37 @@ fn edit(line: u64, numbers: &[usize], word: &[u8], stretch: &[u8]) {
     let t = number_at(numbers, 1);
     let start = number_at(numbers, 2);
     let n = word.len();
-    if numbers.len() == 3 && n <= 2048 {
-        let mut copy = room::zeros();
-        edit_copy(line, m, t, start, word, stretch, &mut copy[..n]);
-    } else {
+    if numbers.len() != 3 || n > 2048 {
         not_understood(line);
+        return;
     }
+    let mut copy = room::for_bytes(n);
+    edit_copy(line, m, t, start, word, stretch, &mut copy[..n]);
 }
 
-fn decode_kept_into(line: u64, record: Kept, word: &mut [u8], list: &mut [u16]) {
-    let answer = card::blentovar_decode_kept(record, word, list);
+fn decode_kept_into(line: u64, record: Kept, word: &mut [u8], list: &mut [u16])
+    requires { ⌜ (length (now word) ≤ 2048) × (length (now list) ≤ 1024) ⌝ }
+{
+    let answer = blentovar::blentovar_decode_kept(record, word, list);
     show_decoded(line, answer, word, list);
 }
 
 fn decode_kept(line: u64, numbers: &[usize], record: Kept) {
     let places = number_at(numbers, 0);
     let listing = number_at(numbers, 1);
-    if numbers.len() == 2 && places <= 2048 && listing <= 1024 {
-        let mut word = room::lent_word();
-        let mut list = room::lent_list();
-        decode_kept_into(line, record, &mut word[..places], &mut list[..listing]);
-    } else {
+    if numbers.len() != 2 || places > 2048 || listing > 1024 {
         not_understood(line);
+        return;
     }
+    let mut word = room::for_bytes(places);
+    let mut list = room::for_list(listing);
+    decode_kept_into(line, record, &mut word[..places], &mut list[..listing]);
 }
 
-fn make_into(line: u64, house: u16, poll: u16, counter: u64, frame: &mut [u8]) {
-    let number = card::blentovar_make_frame(house, poll, counter, frame);
+fn make_into(line: u64, house: u16, poll: u16, counter: u64, frame: &mut [u8])
+    requires { ⌜ length (now frame) ≤ 2048 ⌝ }
+{
+    let number = blentovar::blentovar_make_frame(house, poll, counter, frame);
     show_number(line, number);
     print(b" frame");
     show_lent_bytes(frame);
@@ -151,32 +160,32 @@ fn make(line: u64, numbers: &[usize]) {
     let poll = number_at(numbers, 1);
     let counter = number_at(numbers, 2) as u64;
     let places = number_at(numbers, 3);
-    if numbers.len() == 4 && house <= 65535 && poll <= 65535 && places <= 2048 {
-        let mut frame = room::lent_word();
-        make_into(
-            line,
-            house as u16,
-            poll as u16,
-            counter,
-            &mut frame[..places],
-        );
-    } else {
+    if numbers.len() != 4 || house > 65535 || poll > 65535 || places > 2048 {
         not_understood(line);
+        return;
     }
+    let mut frame = room::for_bytes(places);
+    make_into(
+        line,
+        house as u16,
+        poll as u16,
+        counter,
+        &mut frame[..places],
+    );
 }
 
 fn read(line: u64, numbers: &[usize], frame: &[u8]) {
-    if numbers.len() == 0 {
-        let answer = card::blentovar_read_frame(frame);
-        show_number(line, answer.number);
-        print_number(answer.house as u64);
-        print_number(answer.poll as u64);
-        print_number(answer.counter);
-        print_number(answer.wrong as u64);
-        end_line();
-    } else {
+    if numbers.len() != 0 {
         not_understood(line);
+        return;
     }
+    let answer = blentovar::blentovar_read_frame(frame);
+    show_number(line, answer.number);
+    print_number(answer.house as u64);
+    print_number(answer.poll as u64);
+    print_number(answer.counter);
+    print_number(answer.wrong as u64);
+    end_line();
 }
 
 pub(crate) fn call(

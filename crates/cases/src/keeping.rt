@@ -14,7 +14,7 @@ fn open(line: u64, numbers: &[usize], word: &[u8], record: Kept) -> Kept {
     }
     let m = number_at(numbers, 0);
     let t = number_at(numbers, 1);
-    let answer = card::blentovar_open(m, t, word);
+    let answer = blentovar::blentovar_open(m, t, word);
     show_record(line, answer);
     answer.record
 }
@@ -25,7 +25,7 @@ fn splice(line: u64, numbers: &[usize], stretch: &[u8], record: Kept) -> Kept {
         return record;
     }
     let start = number_at(numbers, 0);
-    let answer = card::blentovar_splice(record, start, stretch);
+    let answer = blentovar::blentovar_splice(record, start, stretch);
     show_record(line, answer);
     answer.record
 }

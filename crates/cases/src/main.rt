@@ -1,16 +1,16 @@
-// Runs the calls that stand in a text on standard input, one command a line, and writes what each answered. The file stdout is what the second program writes for the same text.
+// Runs the calls that stand in a text on standard input, one a line, and writes what each answered. The file stdout is what the second program writes.
 
 ghost use mathlib.Core.Path.{_≡_};
 ghost use lib.ListN.{length};
 
 mod calling;
 mod keeping;
+mod room;
 mod running;
 mod setting;
 mod showing;
 
 use libc::STDIN_FILENO;
-use workbench::text::print;
 
 fn text_space() -> [u8; 262144]
     ensures { λ r. ⌜ 262144 ≡ length r ⌝ }
@@ -23,7 +23,7 @@ fn main() {
     let mut text = text_space();
     let long = io::read_full(STDIN_FILENO, &mut text);
     if long == 262144 {
-        print(b"too long a text\n");
+        showing::print(b"too long a text\n");
     } else {
         running::run_text(&text[..long]);
     }

@@ -4,6 +4,7 @@ ghost use mathlib.Core.Path.{_≡_};
 ghost use Prim.Native.Nat.{_≤_};
 ghost use lib.ListN.{length};
 use crate::keeping::keep;
+use crate::room;
 use crate::setting::set_all;
 use crate::setting::set_places;
 use crate::showing::not_understood;
@@ -12,7 +13,6 @@ use commands::names::Command;
 use commands::names::command_of;
 use commands::numbers::fill_numbers;
 use kept::Kept;
-use workbench::room;
 
 // How much of the room for words and stretches is lent, and the record.
 struct Bench {
@@ -114,7 +114,7 @@ fn run_lines(text: &[u8], word: &mut [u8], stretch: &mut [u8])
 }
 
 pub(crate) fn run_text(text: &[u8]) {
-    let mut word = room::zeros();
-    let mut stretch = room::zeros();
+    let mut word = room::for_bytes(2048);
+    let mut stretch = room::for_bytes(2048);
     run_lines(text, &mut word, &mut stretch);
 }

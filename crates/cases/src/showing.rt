@@ -1,12 +1,25 @@
 // Writing down answers and what lent buffers hold after a call.
 
-use card::DecodeAnswer;
-use card::KeptAnswer;
+ghost use Prim.Native.Nat.{_≤_};
+ghost use lib.ListN.{length};
+use crate::room;
+use blentovar::DecodeAnswer;
+use blentovar::KeptAnswer;
 use libc::STDOUT_FILENO;
-use workbench::room;
-use workbench::text::end_line;
-use workbench::text::print;
-use workbench::text::print_number;
+
+pub(crate) fn print(words: &[u8]) {
+    io::write_all(STDOUT_FILENO, words);
+}
+
+pub(crate) fn end_line() {
+    print(b"\n");
+}
+
+// A number with a blank before it.
+pub(crate) fn print_number(x: u64) {
+    print(b" ");
+    io::print_decimal(STDOUT_FILENO, x);
+}
 
 pub(crate) fn not_understood(line: u64) {
     io::print_decimal(STDOUT_FILENO, line);
@@ -52,15 +65,19 @@ fn show_entries(entries: &[u16]) {
     }
 }
 
-pub(crate) fn show_lent_bytes(lent: &[u8]) {
-    if room::word_is_kept(lent) {
+pub(crate) fn show_lent_bytes(lent: &[u8])
+    requires { ⌜ length (now lent) ≤ 2048 ⌝ }
+{
+    if room::bytes_are_kept(lent) {
         print(b" kept");
     } else {
         show_bytes(lent);
     }
 }
 
-fn show_lent_list(lent: &[u16]) {
+fn show_lent_list(lent: &[u16])
+    requires { ⌜ length (now lent) ≤ 1024 ⌝ }
+{
     if room::list_is_kept(lent) {
         print(b" kept");
     } else {
@@ -68,7 +85,9 @@ fn show_lent_list(lent: &[u16]) {
     }
 }
 
-pub(crate) fn show_decoded(line: u64, answer: DecodeAnswer, word: &[u8], list: &[u16]) {
+pub(crate) fn show_decoded(line: u64, answer: DecodeAnswer, word: &[u8], list: &[u16])
+    requires { ⌜ (length (now word) ≤ 2048) × (length (now list) ≤ 1024) ⌝ }
+{
     show_number(line, answer.number);
     print_number(answer.wrong as u64);
     print(b" word");

@@ -1,3 +1,3 @@
-pub mod DescribeLaws
 pub mod EncodeLaws
+pub mod DescribeLaws
 pub mod EditLaws

@@ -1,36 +1,33 @@
 -- Describe: "m, t, a buffer of n-k+1 places for the generator, place i its coefficient of x^i. Gives n and k." Refusals 1, 2, 4.
 use mathlib.Core.Path.{_≡_}
 use mathlib.Core.Bool.{not}
-use mathlib.Core.List.{List}
-use mathlib.Core.Logic.{_≢_}
+use mathlib.Core.List.{List, [], _∷_}
 use Prim.Native.Nat.{ℕ, _+_, _-_}
 use lib.Dec.{eqb}
 use lib.ListN.{length}
-use Rattle.sheet.specs.Number.{numberOf, refuseIf}
-use Rattle.field.specs.Power.{nOf}
-use Rattle.codes.specs.Look.{kOf, codeRefusal}
+use Rattle.sheet.specs.declared.Refusal.the-variants.{OutputLength}
+use Rattle.sheet.specs.Verdict.{Check, _⇒_, Always}
+use Rattle.codes.specs.declared.Code.{Code}
+use Rattle.codes.specs.Look.{CodePromise}
 use Rattle.generator.specs.Generator.{Generator}
 use Rattle.codec.specs.declared.describing.Described.{Described}
-use Rattle.codec.specs.declared.describing.Described.the-variants.{Code, Refused}
 
--- the sheet's number for this buffer, 0 where nothing is refused
-unfoldable pub describeRefusal : ℕ → ℕ → List ℕ → ℕ
-describeRefusal m t lent = codeRefusal m t (refuseIf (not (eqb (length lent) (nOf m - kOf m t + 1))) 4 0)
+abbrev pub describeChecks : List ℕ → Code → List Check
+describeChecks lent c = not (eqb (length lent) (c .n - c .k + 1)) ⇒ OutputLength ∷ []
 
--- the number and the two values of an answer: a refusal gives zeros beside its number
-abbrev pub describedNumber : Described → ℕ
-describedNumber (Code n k) = 0
-describedNumber (Refused r) = numberOf r
+-- the two values of an answer, and the buffer
+pub record Description : Type 0 where
+  pub n : ℕ
+  pub k : ℕ
+  pub generator : List ℕ
 
-abbrev pub describedN : Described → ℕ
-describedN (Code n k) = n
-describedN (Refused r) = 0
+pub record DescriptionOf (c : Code) (given : Description) : Type 0 where
+  pub is-n : given .n ≡ c .n
+  pub is-k : given .k ≡ c .k
+  pub is-generator : Generator (c .m) (c .t) (c .n - c .k) (given .generator)
 
-abbrev pub describedK : Described → ℕ
-describedK (Code n k) = k
-describedK (Refused r) = 0
-
-pub record Describes (m t : ℕ) (lent : List ℕ) (answer : Described) (left : List ℕ) : Type 0 where
-  pub number : describedNumber answer ≡ describeRefusal m t lent
-  pub done : describeRefusal m t lent ≡ 0 → (describedN answer ≡ nOf m) × (describedK answer ≡ kOf m t) × Generator m t (nOf m - kOf m t) left
-  pub refused : describeRefusal m t lent ≢ 0 → left ≡ lent
+-- refused, n and k are 0 and the buffer is as lent
+abbrev pub Describes : ℕ → ℕ → List ℕ → Described → List ℕ → Type 0
+Describes m t lent answer left =
+    CodePromise m t (describeChecks lent) (λ c. Always (DescriptionOf c)) (record { n = 0; k = 0; generator = lent })
+    (answer .outcome) (record { n = answer .n; k = answer .k; generator = left })

@@ -1,3 +1,4 @@
 pub mod Describe
 pub mod Encode
 pub mod Edit
+pub mod Work

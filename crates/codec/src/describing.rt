@@ -1,37 +1,49 @@
 // Describe: n, k and the generator of a listed code.
 
-ghost use mathlib.Core.Path.{_≡_};
-ghost use lib.ListN.{getD};
-ghost use Rattle.codes.specs.Table.{RowOf, ks, ts};
-ghost use Rattle.codec.specs.Describe.{Describes};
+ghost use Rattle.codes.specs.Look.{Checked};
+ghost use Rattle.codec.specs.Describe.{Describes, describeChecks};
 use codes::Look;
+use sheet::Outcome;
 use sheet::Refusal;
 
-pub enum Described {
-    Code { n: usize, k: usize },
-    Refused(Refusal),
+// A refusal has zeros beside it.
+pub struct Described {
+    pub outcome: Outcome,
+    pub n: usize,
+    pub k: usize,
 }
 
 pub fn describe(m: usize, t: usize, generator: &mut [u8]) -> Described
     ensures { λ r. ⌜ Describes m t (now (generator .entry)) r (now (generator .exit)) ⌝ }
 {
-    let look = codes::look_up(m, t);
-    match look {
-        Look::Row { row, k } => describe_row(m, row, k, generator),
-        Look::Refused(r) => Described::Refused(r),
+    let checked = checks(m, t, generator);
+    match checked {
+        Look::Passes(code) => {
+            generator::fill_generator(code.m, code.row, generator);
+            Described {
+                outcome: Outcome::Done,
+                n: code.n,
+                k: code.k,
+            }
+        }
+        Look::Refused(r) => Described {
+            outcome: Outcome::Refused(r),
+            n: 0,
+            k: 0,
+        },
     }
 }
 
-// The same for a row of the table.
-fn describe_row(m: usize, row: usize, k: usize, generator: &mut [u8]) -> Described
-    requires { ⌜ RowOf m row × (k ≡ getD ks row 0) ⌝ }
-    ensures { λ r. ⌜ Describes m (getD ts row 0) (now (generator .entry)) r (now (generator .exit)) ⌝ }
+fn checks(m: usize, t: usize, generator: &[u8]) -> Look
+    ensures { λ r. ⌜ Checked m t (describeChecks (now (generator .entry))) r ⌝ }
 {
-    let n = field::n_of(m);
-    let places = n - k + 1;
+    let look = codes::look_up(m, t);
+    let Look::Passes(code) = look else {
+        return look;
+    };
+    let places = code.n - code.k + 1;
     if generator.len() != places {
-        return Described::Refused(Refusal::OutputLength);
+        return Look::Refused(Refusal::OutputLength);
     }
-    generator::fill_generator(m, row, generator);
-    Described::Code { n, k }
+    look
 }

@@ -1,71 +1,59 @@
 // Edit: a stretch of message bits replaced in a word, and what that changes of the parity.
 
-ghost use mathlib.Core.Path.{_≡_};
-ghost use mathlib.Core.Bool.{_||_};
-ghost use Prim.Native.Nat.{_+_, _-_, _≤_};
-ghost use lib.ListN.{length, getD};
-ghost use Rattle.bits.specs.Bits.{AreBits, hasBadBit};
-ghost use Rattle.field.specs.Power.{nOf};
-ghost use Rattle.codes.specs.Table.{RowOf, ks, ts};
-ghost use Rattle.codec.specs.Edit.{Edits, Editing};
+ghost use Rattle.codes.specs.Look.{Checked};
+ghost use Rattle.codec.specs.Edit.{Edits, Editing, editChecks};
+ghost use Rattle.codec.specs.Work.{EditReady};
+use codes::Code;
 use codes::Look;
+use sheet::Outcome;
 use sheet::Refusal;
 
-pub enum Edited {
-    Done,
-    Refused(Refusal),
-}
-
-pub fn edit(m: usize, t: usize, word: &mut [u8], start: usize, stretch: &[u8]) -> Edited
+pub fn edit(m: usize, t: usize, word: &mut [u8], start: usize, stretch: &[u8]) -> Outcome
     ensures { λ r. ⌜ Edits m t (now (word .entry)) start (now (stretch .entry)) r (now (word .exit)) ⌝ }
 {
+    let checked = checks(m, t, word, start, stretch);
+    match checked {
+        Look::Passes(code) => {
+            put_stretch(code, word, start, stretch);
+            Outcome::Done
+        }
+        Look::Refused(r) => Outcome::Refused(r),
+    }
+}
+
+fn checks(m: usize, t: usize, word: &[u8], start: usize, stretch: &[u8]) -> Look
+    ensures { λ r. ⌜ Checked m t (editChecks (now (word .entry)) start (now (stretch .entry))) r ⌝ }
+{
     let look = codes::look_up(m, t);
-    match look {
-        Look::Row { row, k } => edit_row(m, row, k, word, start, stretch),
-        Look::Refused(r) => Edited::Refused(r),
+    let Look::Passes(code) = look else {
+        return look;
+    };
+    if word.len() != code.n {
+        return Look::Refused(Refusal::InputLength);
     }
-}
-
-// The same for a row of the table.
-fn edit_row(m: usize, row: usize, k: usize, word: &mut [u8], start: usize, stretch: &[u8]) -> Edited
-    requires { ⌜ RowOf m row × (k ≡ getD ks row 0) ⌝ }
-    ensures { λ r. ⌜ Edits m (getD ts row 0) (now (word .entry)) start (now (stretch .entry)) r (now (word .exit)) ⌝ }
-{
-    let n = field::n_of(m);
-    if word.len() != n {
-        return Edited::Refused(Refusal::InputLength);
-    }
-    let past = bits::runs_past(start, stretch.len(), k);
-    let bad = has_bad_bit(word, stretch);
+    let past = bits::runs_past(start, stretch.len(), code.k);
     if past {
-        return Edited::Refused(Refusal::StretchEnd);
+        return Look::Refused(Refusal::StretchEnd);
     }
-    if bad {
-        return Edited::Refused(Refusal::BitAboveOne);
+    let bad_in_word = bits::first_above_one(word);
+    if bad_in_word < word.len() {
+        return Look::Refused(Refusal::BitAboveOne);
     }
-    put_stretch(m, row, n - k, word, start, stretch);
-    Edited::Done
+    let bad_in_stretch = bits::first_above_one(stretch);
+    if bad_in_stretch < stretch.len() {
+        return Look::Refused(Refusal::BitAboveOne);
+    }
+    look
 }
 
-// Whether a place of the word or of the stretch holds more than 1.
-fn has_bad_bit(word: &[u8], stretch: &[u8]) -> bool
-    ensures { λ r. ⌜ r ≡ hasBadBit (now (word .entry)) || hasBadBit (now (stretch .entry)) ⌝ }
+// Into the word the code word that carries the change of the message is added.
+fn put_stretch(code: Code, word: &mut [u8], start: usize, stretch: &[u8])
+    requires { ⌜ EditReady code (now word) start (now stretch) ⌝ }
+    ensures { λ _. ⌜ Editing code (now (word .entry)) start (now (stretch .entry)) (now (word .exit)) ⌝ }
 {
-    let in_word = bits::has_bad_bit(word);
-    if in_word {
-        return true;
-    }
-    bits::has_bad_bit(stretch)
-}
-
-// Into a word of a row of m, d being n - k, the code word that carries the change of the message is added.
-fn put_stretch(m: usize, row: usize, d: usize, word: &mut [u8], start: usize, stretch: &[u8])
-    requires { ⌜ RowOf m row × (d ≡ nOf m - getD ks row 0) × (length (now word) ≡ nOf m) × AreBits (now word) × AreBits (now stretch) × (start + length (now stretch) ≤ getD ks row 0) ⌝ }
-    ensures { λ _. ⌜ Editing m (getD ts row 0) (getD ks row 0) (now (word .entry)) start (now (stretch .entry)) (now (word .exit)) ⌝ }
-{
-    let n = word.len();
-    let k = n - d;
-    let change = parity::message_change(word, d + start, start, stretch);
-    let carrier = parity::code_word(m, row, d, &change[..k]);
+    let n = code.n;
+    let k = code.k;
+    let change = parity::message_change(word, n - k + start, start, stretch);
+    let carrier = parity::code_word(code, &change[..k]);
     bits::add_at(word, 0, &carrier[..n]);
 }

@@ -6,7 +6,5 @@ mod encoding;
 
 pub use describing::Described;
 pub use describing::describe;
-pub use editing::Edited;
 pub use editing::edit;
-pub use encoding::Encoded;
 pub use encoding::encode;

@@ -92,7 +92,13 @@ more {P} {n} {c} p m =
 
 pub members : {P : ℕ → Type 0} {n c : ℕ} → Count P n c → Members P n c
 members none =
-    record { list = []; long = refl; below = λ i h. absurd (not-suc-le-zero h); have = λ i h. absurd (not-suc-le-zero h); descending = λ i j h k. absurd (not-suc-le-zero k) }
+    record {
+      list = [];
+      long = refl;
+      below = λ i h. absurd (not-suc-le-zero h);
+      have = λ i h. absurd (not-suc-le-zero h);
+      descending = λ i j h k. absurd (not-suc-le-zero k);
+    }
 members (hit p x) = more p (members x)
 members (miss p x) =
     let m = members x in

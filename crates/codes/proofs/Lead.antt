@@ -2,7 +2,9 @@
 use mathlib.Core.Path.{_≡_, _∙_, sym, ap}
 use mathlib.Core.Logic.{_↔_}
 use Prim.Native.Nat.{ℕ, zero, suc, _+_, _-_, _*_, _/_, _%_, _^_, _≤_, _<_, min}
-use native.Mathlib.Nat.{add-comm, zero-mul, mul-one, mul-comm, mul-suc, suc-mul, mul-assoc, mul-left-comm, add-mul, pow-suc, zero-mod, mod-mod, mod-self, mod-le, mod-lt, mod-add-div, div-add-mod', mod-eq-of-lt, add-mul-mod-self-right, add-mul-mod-self-left, min-le-left, min-eq-left, min-eq-right, le-trans}
+use native.Mathlib.Nat.{add-comm, zero-mul, mul-one, mul-comm, mul-suc, suc-mul, mul-assoc, mul-left-comm, add-mul, pow-suc}
+use native.Mathlib.Nat.{zero-mod, mod-mod, mod-self, mod-le, mod-lt, mod-add-div, div-add-mod', mod-eq-of-lt}
+use native.Mathlib.Nat.{add-mul-mod-self-right, add-mul-mod-self-left, min-le-left, min-eq-left, min-eq-right, le-trans}
 use native.Mathlib.Decide.{decLe}
 use native.Mathlib.Omega.{arith}
 use lib.Pow.{pow-lt, pow-add, suc-ones}

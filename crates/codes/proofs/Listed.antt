@@ -6,7 +6,7 @@ use native.Mathlib.Nat.{mod-eq-of-lt, mod-lt}
 use native.Mathlib.Decide.{decLe, ℕ-discrete}
 use native.Mathlib.Omega.{arith}
 use lib.ListN.{getD}
-use Rattle.field.specs.Product.{Listed}
+use Rattle.field.specs.Product.{IsField}
 use Rattle.field.specs.Power.{nOf}
 use Rattle.codes.specs.Table.{ks, ts, ListedCode, before-k, before-t}
 use Rattle.codes.specs.Rule.{Residue, Count, Rule}
@@ -14,7 +14,7 @@ use Rattle.codes.proofs.Count.{count-unique, count-nearly-all}
 use Rattle.codes.proofs.Lead.{lead, n-positive, residue-lead, lead-at-most, all-residues}
 use Rattle.codes.proofs.Walk.{RightRow, right-row-at, row-found}
 
-module _ (m : ℕ) (L : Listed m) where
+module _ (m : ℕ) (L : IsField m) where
   positive-m : 1 ≤ m
   positive-m = omega arith
 
@@ -57,6 +57,6 @@ module _ (m : ℕ) (L : Listed m) where
       let d : nOf m - getD ks r 0 ≡ nOf m - k = count-unique c (R .count) in
       record { row = r; of-m = w; is-k = omega arith; is-t = e }
 
-pub listed-exactly : (m k t : ℕ) → Listed m → ListedCode m k t ↔ Rule m k t
+pub listed-exactly : (m k t : ℕ) → IsField m → ListedCode m k t ↔ Rule m k t
 listed-exactly m k t L =
     (λ w. subst (λ z. Rule m z t) (w .is-k) (subst (λ z. Rule m (getD ks (w .row) 0) z) (w .is-t) (right-rule m L (right-row-at (w .of-m)))), rule-listed m L)

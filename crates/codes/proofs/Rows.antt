@@ -154,6 +154,7 @@ module _ {m r : ℕ} (w : RowOf m r) (x : ℕ) (h : x < nOf m) where
 pub class-count : {m r : ℕ} → RowOf m r → Count (InClass (nOf m) (2 * before-t m r + 1)) (nOf m) (before-k m r - getD ks r 0)
 class-count {m} {r} w =
     let R : RightRow m (before-k m r) (before-t m r) (getD ks r 0) (getD ts r 0) = right-row-at w in
-    let (c, e, x) = count-rest {R = InClass (nOf m) (2 * before-t m r + 1)} (old-residue w) (λ x h. (class-new w x h, new-class w x h)) (R .count) (before-count w) in
+    let (c, e, x) = count-rest {R = InClass (nOf m) (2 * before-t m r + 1)} (old-residue w)
+    (λ x h. (class-new w x h, new-class w x h)) (R .count) (before-count w) in
     let f : c ≡ before-k m r - getD ks r 0 = omega arith in
     rw f at x

@@ -11,9 +11,11 @@ use lib.Pow.{pow-pos}
 use Rattle.bits.specs.Bits.{AreBits, added, addedAt, flip, flipped}
 use Rattle.bits.specs.Differences.{differences}
 use Rattle.bits.proofs.DistanceLaws.{differences-place, flipped-differences}
-use Rattle.bits.proofs.BitLaws.{addedAt-at, bit-cases, bits-head, bits-tail, bits-cons, bits-replicate, bits-ones, bits-append, bits-flip, added-none, added-cons, added-everywhere, addedAt-zero, addedAt-cons, flip-added, length-flip, flipped-nil, flipped-cons, padded-at, zeros-at, bits-added, bits-addedAt}
+use Rattle.bits.proofs.BitLaws.{addedAt-at, bit-cases, bits-head, bits-tail, bits-cons, bits-replicate, bits-ones, bits-append}
+use Rattle.bits.proofs.BitLaws.{bits-flip, added-none, added-cons, added-everywhere, addedAt-zero, addedAt-cons, flip-added}
+use Rattle.bits.proofs.BitLaws.{length-flip, flipped-nil, flipped-cons, padded-at, zeros-at, bits-added, bits-addedAt}
 use Rattle.field.specs.Sum.{_⊕_}
-use Rattle.field.specs.Product.{Listed, _⊗⟨_⟩_}
+use Rattle.field.specs.Product.{IsField, _⊗⟨_⟩_}
 use Rattle.field.specs.Power.{a, nOf, power}
 use Rattle.field.proofs.SumLaws.{xor-sum, sum, sum-zero, zero-sum, sum-bound, sum-assoc}
 use Rattle.field.proofs.ProductLaws.{product, product-zero, zero-product, one-product, product-one, product-bound, product-over, square-sum, product-rearrange}
@@ -83,7 +85,7 @@ sum-none m j xs h = sumOf-from m j xs ∙ sumFrom-zeros m j 0 xs h
 pub sum-zeros : (m j s : ℕ) → sumOf m j (replicate s 0) ≡ 0
 sum-zeros m j s = sum-none m j (replicate s 0) (zeros-at s)
 
-module _ {m : ℕ} (L : Listed m) where
+module _ {m : ℕ} (L : IsField m) where
   bit-bound : {x : ℕ} → x ≤ 1 → x < 2 ^ m
   bit-bound h = omega (arith, one-bound L)
 
@@ -98,7 +100,8 @@ module _ {m : ℕ} (L : Listed m) where
   sumFrom-later : (j k i : ℕ) (xs : List ℕ) → AreBits xs → sumFrom m j (k + i) xs ≡ power m a (k * j) ⊗⟨ m ⟩ sumFrom m j i xs
   sumFrom-later j k i [] b = sumFrom-nil m j (k + i) ∙ sym (ap (λ z. power m a (k * j) ⊗⟨ m ⟩ z) (sumFrom-nil m j i) ∙ product-zero m (power m a (k * j)))
   sumFrom-later j k i (x ∷ xs) b =
-      let later : sumFrom m j (suc (k + i)) xs ≡ power m a (k * j) ⊗⟨ m ⟩ sumFrom m j (suc i) xs = rw (← add-suc k i) (sumFrom-later j k (suc i) xs (bits-tail b)) in
+      let later : sumFrom m j (suc (k + i)) xs ≡ power m a (k * j) ⊗⟨ m ⟩ sumFrom m j (suc i) xs =
+      rw (← add-suc k i) (sumFrom-later j k (suc i) xs (bits-tail b)) in
       sumFrom-cons m j (k + i) x xs
       ∙ ap₂ (λ y z. x * y ⊕ z) (ap (power m a) (add-mul k i j) ∙ power-add L a (k * j) (i * j)) later
       ∙ ap (λ y. y ⊕ power m a (k * j) ⊗⟨ m ⟩ sumFrom m j (suc i) xs) (bit-slides x (power m a (k * j)) (power m a (i * j)) (bits-head b))
@@ -249,7 +252,7 @@ module _ {m : ℕ} (L : Listed m) where
   sum-class i e xs b h = sum-residue i e xs b ∙ ap (λ z. power m z (2 ^ e)) h ∙ zero-power L (2 ^ e) (pow-pos e)
 
 -- "Over bits S_(2j) is the square of S_j, so S_1, S_3, .. S_(2t-1) are enough."
-module _ {m : ℕ} (L : Listed m) (xs : List ℕ) (b : AreBits xs) (t : ℕ) (odd : (i : ℕ) → i < t → sumOf m (2 * i + 1) xs ≡ 0) where
+module _ {m : ℕ} (L : IsField m) (xs : List ℕ) (b : AreBits xs) (t : ℕ) (odd : (i : ℕ) → i < t → sumOf m (2 * i + 1) xs ≡ 0) where
   vanish-to : (most j : ℕ) → j ≤ most → 1 ≤ j → j ≤ 2 * t → sumOf m j xs ≡ 0
   vanish-to zero j h l u = absurd (omega arith)
   vanish-to (suc most) j h l u = pick (vanish-to most (j / 2)) (ℕ-discrete (j % 2) 0)

@@ -13,7 +13,7 @@ use Rattle.algebra.proofs.Roots.{vanishing}
 use Rattle.bits.specs.Bits.{AreBits, added}
 use Rattle.bits.proofs.BitLaws.{bits-tail, bits-added}
 use Rattle.field.specs.Sum.{_⊕_}
-use Rattle.field.specs.Product.{Listed, _⊗⟨_⟩_}
+use Rattle.field.specs.Product.{IsField, _⊗⟨_⟩_}
 use Rattle.field.specs.Power.{a, nOf, power}
 use Rattle.field.proofs.SumLaws.{sum-self, zero-sum, equal-of-sum}
 use Rattle.field.proofs.ProductLaws.{product-zero}
@@ -33,7 +33,7 @@ pub record Roots (m t d : ℕ) (rs : List ℕ) : Type 0 where
   pub differ : (i j : ℕ) → i < j → j < d → getD rs i 0 ≢ getD rs j 0
   pub residue : (i : ℕ) → i < d → Residue (nOf m) t (getD rs i 0)
 
-module _ {m : ℕ} (L : Listed m) where
+module _ {m : ℕ} (L : IsField m) where
   -- a series that holds the word's bits: its value at a^j is the sum
   pub evaluate-word : (j d : ℕ) (p : ℕ → Element m) (y : Element m) (xs : List ℕ) → AreBits xs → ((i : ℕ) → p i .0 ≡ getD xs i 0)
       → ((i : ℕ) → d ≤ i → getD xs i 0 ≡ 0) → y .0 ≡ power m a j → (Series.evaluate (ringOf m L) d p y) .0 ≡ sumOf m j xs

@@ -10,7 +10,7 @@ use native.Mathlib.Omega.{arith}
 use lib.Dec.{T, eqb, leb, ltb, eqb→eq, eqb-refl, leb→le, le→leb, ltb→lt, T-not}
 use lib.ListN.{getD, drop}
 use lib.Seq.{getD-drop}
-use Rattle.field.specs.Product.{Listed}
+use Rattle.field.specs.Product.{IsField}
 use Rattle.field.specs.Power.{nOf}
 use Rattle.codes.specs.Table.{ks, ts, firsts, first, RowOf, before-k, before-t}
 use Rattle.codes.specs.Rule.{Residue, Count}
@@ -49,7 +49,7 @@ walkOf m =
     let leads : List ℕ = leadsOf m in
     walk m leads (first (suc m) - first m) (nOf m) 0 (drop (first m) ks) (drop (first m) ts)
 
-walked : {m : ℕ} → Listed m → T (walkOf m)
+walked : {m : ℕ} → IsField m → T (walkOf m)
 unfolding lead ks ts firsts first
 walked = at-listed walkOf tt
 
@@ -134,7 +134,7 @@ right-row-at {m} {r} w =
     rw (← a, ← b)
     (walk-at m (omega arith) (first (suc m) - first m) (nOf m) 0 (drop (first m) ks) (drop (first m) ts) (walked (w .listed)) (r - first m) (omega arith))
 
-pub row-found : {m : ℕ} → Listed m → (t : ℕ) → 1 ≤ t → 2 * t + 1 < nOf m → lead m (2 * t + 1) ≡ 2 * t + 1 → (r : ℕ) × RowOf m r × (getD ts r 0 ≡ t)
+pub row-found : {m : ℕ} → IsField m → (t : ℕ) → 1 ≤ t → 2 * t + 1 < nOf m → lead m (2 * t + 1) ≡ 2 * t + 1 → (r : ℕ) × RowOf m r × (getD ts r 0 ≡ t)
 row-found {m} l t h n e =
     let (i, q, f) = walk-found m (omega arith) (first (suc m) - first m) (nOf m) 0 (drop (first m) ks) (drop (first m) ts) (walked l) t h n e in
     (first m + i, record { listed = l; from = omega arith; below = omega arith }, sym (getD-drop (first m) ts i 0) ∙ f)

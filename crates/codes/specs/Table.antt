@@ -3,7 +3,7 @@ use mathlib.Core.Path.{_≡_}
 use mathlib.Core.List.{List, [], _∷_}
 use Prim.Native.Nat.{ℕ, suc, _-_, _≤_, _<_}
 use lib.ListN.{getD, drop}
-use Rattle.field.specs.Product.{Listed}
+use Rattle.field.specs.Product.{IsField}
 use Rattle.field.specs.Power.{nOf}
 
 unfoldable pub ks : List ℕ
@@ -41,7 +41,7 @@ first m = getD firsts (m - 3) 0
 
 -- row r is one of those of m
 pub record RowOf (m r : ℕ) : Type 0 where
-  pub listed : Listed m
+  pub listed : IsField m
   pub from : first m ≤ r
   pub below : r < first (suc m)
 

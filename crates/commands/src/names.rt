@@ -1,6 +1,6 @@
 // The commands and their names.
 
-use crate::numbers::same;
+use check::same;
 
 pub enum Command {
     Word,

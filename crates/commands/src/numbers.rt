@@ -1,23 +1,9 @@
-// Comparing words, and reading the decimal numbers of a line.
+// Reading the decimal numbers of a line.
 
 ghost use mathlib.Core.Path.{_≡_};
 ghost use Prim.Native.Nat.{_≤_};
 ghost use lib.ListN.{length};
 use bytes::scan;
-
-pub fn same(x: &[u8], y: &[u8]) -> bool {
-    if x.len() != y.len() {
-        return false;
-    }
-    let mut i = 0;
-    while i < x.len() {
-        if x[i] != y[i] {
-            return false;
-        }
-        i += 1;
-    }
-    true
-}
 
 struct Value {
     is_number: bool,

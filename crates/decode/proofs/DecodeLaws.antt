@@ -9,7 +9,7 @@ use Rattle.bits.specs.Differences.{differences, distance}
 use Rattle.bits.proofs.BitLaws.{length-flipped, bits-flipped}
 use Rattle.bits.proofs.DistanceLaws.{differences-ascending, differences-place, distance-length, differences-flipped, distance-flipped}
 use Rattle.field.specs.Sum.{_⊕_}
-use Rattle.field.specs.Product.{Listed}
+use Rattle.field.specs.Product.{IsField}
 use Rattle.field.specs.Power.{nOf}
 use Rattle.field.proofs.SumLaws.{equal-of-sum, sum-self, sum-comm}
 use Rattle.codes.specs.Sums.{CodeWord, sumOf, sumOver}
@@ -18,7 +18,7 @@ use Rattle.locate.specs.Located.{Located}
 use Rattle.decode.specs.Decode.{Mends, Far}
 
 -- what came in, and its odd sums
-module _ {m t : ℕ} (L : Listed m) {received sums : List ℕ} (B : AreBits received) (long : length received ≡ nOf m)
+module _ {m t : ℕ} (L : IsField m) {received sums : List ℕ} (B : AreBits received) (long : length received ≡ nOf m)
     (S : (i : ℕ) → i < t → getD sums i 0 ≡ sumOf m (2 * i + 1) received) where
   pub near-located : (c : List ℕ) → CodeWord m t c → distance received c ≤ t → Located m t sums (differences received c)
   near-located c C h =
@@ -44,16 +44,17 @@ module _ {m t : ℕ} (L : Listed m) {received sums : List ℕ} (B : AreBits rece
           sum-flipped L (2 * i + 1) received ps B (λ p h. omega (arith, E .below p h, long))
           ∙ ap₂ (λ (x y : ℕ). x ⊕ y) (sym (S i k)) (E .same i k) ∙ sum-self (getD sums i 0)
 
-  pub nothing-near : ((ps : List ℕ) → Located m t sums ps → ⊥) → Far m t received
+  pub nothing-near : ((ps : List ℕ) → Located m t sums ps → ⊥) → Far m t t received
   nothing-near n c C h = n (differences received c) (near-located c C h)
 
-  pub mends : {ps word list : List ℕ} → Located m t sums ps → word ≡ flipped received ps → list ≡ ps ++ replicate (t - length ps) 0 → Mends m t received word list (length ps)
-  mends {ps} {word} {list} E e l =
+  pub mends : {ps word list : List ℕ} {wrong : ℕ} → Located m t sums ps → wrong ≡ length ps → word ≡ flipped received ps
+      → list ≡ ps ++ replicate (t - length ps) 0 → Mends m t t received (record { wrong = wrong; word = word; list = list })
+  mends {ps} {word} {list} {wrong} E c e l =
       let below : (p : ℕ) → List·Memᴰ p ps → p < length received = λ p h. omega (arith, E .below p h, long) in
       let d : differences received word ≡ ps = ap (differences received) e ∙ differences-flipped received ps B (E .ascending) below in
       record {
         code-word = subst (CodeWord m t) (sym e) (located-word ps E);
-        counts = ap (distance received) e ∙ distance-flipped received ps B (E .ascending) below;
-        within = E .few;
-        lists = l ∙ ap (λ (q : List ℕ). q ++ replicate (t - length ps) 0) (sym d);
+        counts = ap (distance received) e ∙ distance-flipped received ps B (E .ascending) below ∙ sym c;
+        within = omega (arith, E .few);
+        lists = l ∙ ap₂ (λ (q : List ℕ) (x : ℕ). q ++ replicate (t - x) 0) (sym d) (sym c);
       }

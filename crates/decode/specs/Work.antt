@@ -1,32 +1,47 @@
 -- What the steps of Decode hand to each other; no promise of an operation speaks of it.
 use mathlib.Core.Path.{_≡_}
 use mathlib.Core.List.{List, _++_}
-use Prim.Native.Nat.{ℕ, _-_}
-use lib.ListN.{length, replicate}
+use Prim.Native.Nat.{ℕ, _-_, _≤_}
+use lib.ListN.{length, take, replicate}
+use Rattle.sheet.specs.declared.Outcome.the-variants.{Done}
 use Rattle.bits.specs.Bits.{AreBits}
-use Rattle.field.specs.Power.{nOf}
-use Rattle.codes.specs.Look.{Accepted}
+use Rattle.codes.specs.declared.Code.{Code}
+use Rattle.codes.specs.Look.{Known}
+use Rattle.codes.specs.Sums.{CodeWord}
 use Rattle.sums.specs.Rows.{OddSums}
 use Rattle.locate.specs.Located.{Located}
 use Rattle.decode.specs.declared.Decoded.{Decoded}
-use Rattle.decode.specs.declared.Decoded.the-variants.{Mended}
 
 -- the checks have passed
-pub record Ready (m t : ℕ) (received word list : List ℕ) : Type 0 where
-  pub accepted : Accepted m t
-  pub received-long : length received ≡ nOf m
+pub record DecodeReady (c : Code) (received word list : List ℕ) : Type 0 where
+  pub known : Known c
+  pub received-long : length received ≡ c .n
   pub received-bits : AreBits received
-  pub word-long : length word ≡ nOf m
-  pub list-long : length list ≡ t
+  pub word-long : length word ≡ c .n
+  pub list-long : length list ≡ c .t
 
 -- the places have the odd sums of what came in
-pub record WrongPlaces (m t : ℕ) (received places : List ℕ) : Type 0 where
+pub record WrongPlaces (c : Code) (received places : List ℕ) : Type 0 where
   pub sums : List ℕ
-  pub of-received : OddSums m t received sums
-  pub located : Located m t sums places
+  pub of-received : OddSums (c .m) (c .t) received sums
+  pub located : Located (c .m) (c .t) sums places
+
+-- the first so many places are the wrong ones
+pub record FirstAreWrong (c : Code) (received places : List ℕ) (count : ℕ) (word list : List ℕ) : Type 0 where
+  pub ready : DecodeReady c received word list
+  pub within : count ≤ length places
+  pub wrong : WrongPlaces c received (take count places)
+
+-- a code word that is to be written down, and its places
+pub record CanPut (c : Code) (mended places word list : List ℕ) : Type 0 where
+  pub known : Known c
+  pub code-word : CodeWord (c .m) (c .t) mended
+  pub same-long : length word ≡ length mended
+  pub few : length places ≤ length list
 
 -- the mended word and its places are written down: the second check has not refused
 pub record PutDown (mended places lentList : List ℕ) (answer : Decoded) (word list : List ℕ) : Type 0 where
-  pub answers : answer ≡ Mended (length places)
+  pub is-done : answer .outcome ≡ Done
+  pub counts : answer .wrong ≡ length places
   pub is-word : word ≡ mended
   pub is-list : list ≡ places ++ replicate (length lentList - length places) 0

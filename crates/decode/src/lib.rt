@@ -2,130 +2,138 @@
 
 ghost use mathlib.Core.Path.{_≡_};
 ghost use mathlib.Core.Bool.{true};
-ghost use Prim.Native.Nat.{_≤_};
-ghost use lib.ListN.{length, take};
-ghost use Rattle.field.specs.Product.{Listed};
-ghost use Rattle.codes.specs.Look.{Accepted};
+ghost use Rattle.sheet.specs.declared.Outcome.the-variants.{Refused};
+ghost use Rattle.codes.specs.Look.{Checked, Known};
 ghost use Rattle.codes.specs.Sums.{CodeWord};
-ghost use Rattle.decode.specs.Decode.{Decodes, Finds, Kept};
-ghost use Rattle.decode.specs.Work.{Ready, WrongPlaces, PutDown};
+ghost use Rattle.decode.specs.Decode.{Decodes, MendsWithin, decodeChecks, leftBy};
+ghost use Rattle.decode.specs.Work.{DecodeReady, WrongPlaces, FirstAreWrong, CanPut, PutDown};
+use codes::Code;
 use codes::Look;
 use locate::Found;
+use sheet::Outcome;
 use sheet::Refusal;
 
-pub enum Decoded {
-    // So many places were wrong.
-    Mended(usize),
-    Refused(Refusal),
+// So many places were wrong; 0 beside a refusal.
+pub struct Decoded {
+    pub outcome: Outcome,
+    pub wrong: usize,
 }
 
 pub fn decode(m: usize, t: usize, received: &[u8], word: &mut [u8], list: &mut [u16]) -> Decoded
     ensures { λ r. ⌜ Decodes m t (now (received .entry)) (now (word .entry)) (now (list .entry)) r (now (word .exit)) (now (list .exit)) ⌝ }
 {
-    let look = codes::look_up(m, t);
-    match look {
-        Look::Row { row: _, k: _ } => decode_listed(m, t, received, word, list),
-        Look::Refused(r) => Decoded::Refused(r),
+    let checked = checks(m, t, received, word, list);
+    match checked {
+        Look::Passes(code) => mend_received(code, received, word, list),
+        Look::Refused(r) => refused(r),
     }
 }
 
-// The same for a listed code.
-fn decode_listed(m: usize, t: usize, received: &[u8], word: &mut [u8], list: &mut [u16]) -> Decoded
-    requires { ⌜ Accepted m t ⌝ }
-    ensures { λ r. ⌜ Decodes m t (now (received .entry)) (now (word .entry)) (now (list .entry)) r (now (word .exit)) (now (list .exit)) ⌝ }
+// A refusal, with no number beside it but 0.
+pub fn refused(r: Refusal) -> Decoded
+    ensures { λ d. ⌜ (d .outcome ≡ Refused r) × (d .wrong ≡ 0) ⌝ }
 {
-    let n = field::n_of(m);
-    if received.len() != n {
-        return Decoded::Refused(Refusal::InputLength);
+    Decoded {
+        outcome: Outcome::Refused(r),
+        wrong: 0,
     }
-    if word.len() != n {
-        return Decoded::Refused(Refusal::OutputLength);
+}
+
+fn checks(m: usize, t: usize, received: &[u8], word: &[u8], list: &[u16]) -> Look
+    ensures { λ r. ⌜ Checked m t (decodeChecks (now (received .entry)) (now (word .entry)) (now (list .entry))) r ⌝ }
+{
+    let look = codes::look_up(m, t);
+    let Look::Passes(code) = look else {
+        return look;
+    };
+    if received.len() != code.n {
+        return Look::Refused(Refusal::InputLength);
     }
-    if list.len() != t {
-        return Decoded::Refused(Refusal::OutputLength);
+    if word.len() != code.n {
+        return Look::Refused(Refusal::OutputLength);
+    }
+    if list.len() != code.t {
+        return Look::Refused(Refusal::OutputLength);
     }
     let bad = bits::first_above_one(received);
     if bad < received.len() {
-        return Decoded::Refused(Refusal::BitAboveOne);
+        return Look::Refused(Refusal::BitAboveOne);
     }
-    mend(m, t, received, word, list)
+    look
 }
 
 // Past the checks.
-fn mend(m: usize, t: usize, received: &[u8], word: &mut [u8], list: &mut [u16]) -> Decoded
-    requires { ⌜ Ready m t (now received) (now word) (now list) ⌝ }
-    ensures { λ r. ⌜ Finds m t (now (received .entry)) r (now (word .exit)) (now (list .exit)) × Kept r (now (word .entry)) (now (list .entry)) (now (word .exit)) (now (list .exit)) ⌝ }
+fn mend_received(code: Code, received: &[u8], word: &mut [u8], list: &mut [u16]) -> Decoded
+    requires { ⌜ DecodeReady code (now received) (now word) (now list) ⌝ }
+    ensures { λ r. ⌜ MendsWithin code (code .t) (now (received .entry)) (now (word .entry)) (now (list .entry)) (r .outcome)
+        (leftBy r (now (word .exit)) (now (list .exit))) ⌝ }
 {
-    let search = search::of_word(m, t, received);
+    let search = locate::of_word(code.m, code.t, received);
     let answer = search.answer;
     let places = search.places;
     match answer {
-        Found::Places(count) => put_first(m, t, &places, count, received, word, list),
-        Found::Nothing => Decoded::Refused(Refusal::NothingNear),
+        Found::Places(count) => put_first(code, &places, count, received, word, list),
+        Found::Nothing => refused(Refusal::NothingNear),
     }
 }
 
 // The same for the first `count` of the places.
 fn put_first(
-    m: usize,
-    t: usize,
+    code: Code,
     places: &[u16],
     count: usize,
     received: &[u8],
     word: &mut [u8],
     list: &mut [u16],
 ) -> Decoded
-    requires { ⌜ Ready m t (now received) (now word) (now list) × (count ≤ length (now places)) × WrongPlaces m t (now received) (take count (now places)) ⌝ }
-    ensures { λ r. ⌜ Finds m t (now (received .entry)) r (now (word .exit)) (now (list .exit)) × Kept r (now (word .entry)) (now (list .entry)) (now (word .exit)) (now (list .exit)) ⌝ }
+    requires { ⌜ FirstAreWrong code (now received) (now places) count (now word) (now list) ⌝ }
+    ensures { λ r. ⌜ MendsWithin code (code .t) (now (received .entry)) (now (word .entry)) (now (list .entry)) (r .outcome)
+        (leftBy r (now (word .exit)) (now (list .exit))) ⌝ }
 {
-    put(m, t, &places[..count], received, word, list)
+    put(code, &places[..count], received, word, list)
 }
 
 // The word with these places turned over, and the list.
-fn put(
-    m: usize,
-    t: usize,
-    places: &[u16],
-    received: &[u8],
-    word: &mut [u8],
-    list: &mut [u16],
-) -> Decoded
-    requires { ⌜ Ready m t (now received) (now word) (now list) × WrongPlaces m t (now received) (now places) ⌝ }
-    ensures { λ r. ⌜ Finds m t (now (received .entry)) r (now (word .exit)) (now (list .exit)) × Kept r (now (word .entry)) (now (list .entry)) (now (word .exit)) (now (list .exit)) ⌝ }
+fn put(code: Code, places: &[u16], received: &[u8], word: &mut [u8], list: &mut [u16]) -> Decoded
+    requires { ⌜ DecodeReady code (now received) (now word) (now list) × WrongPlaces code (now received) (now places) ⌝ }
+    ensures { λ r. ⌜ MendsWithin code (code .t) (now (received .entry)) (now (word .entry)) (now (list .entry)) (r .outcome)
+        (leftBy r (now (word .exit)) (now (list .exit))) ⌝ }
 {
     let n = received.len();
     let mended = bits::turned_over(received, places);
-    put_checked(m, t, &mended[..n], places, word, list)
+    put_checked(code, &mended[..n], places, word, list)
 }
 
 // The second check of the mended word's sums, which never refuses, and then both buffers are written.
 fn put_checked(
-    m: usize,
-    t: usize,
+    code: Code,
     mended: &[u8],
     places: &[u16],
     word: &mut [u8],
     list: &mut [u16],
 ) -> Decoded
-    requires { ⌜ Listed m × (t ≤ 255) × CodeWord m t (now mended) × (length (now word) ≡ length (now mended)) × (length (now places) ≤ length (now list)) ⌝ }
+    requires { ⌜ CanPut code (now mended) (now places) (now word) (now list) ⌝ }
     ensures { λ r. ⌜ PutDown (now (mended .entry)) (now (places .entry)) (now (list .entry)) r (now (word .exit)) (now (list .exit)) ⌝ }
 {
-    let passes = passes_again(m, t, mended, places.len());
+    let passes = passes_again(code, mended, places.len());
     if !passes {
-        return Decoded::Refused(Refusal::SecondCheck);
+        return refused(Refusal::SecondCheck);
     }
     bits::copy_at(word, 0, mended);
     entries::put_list(places, list);
-    Decoded::Mended(places.len())
+    Decoded {
+        outcome: Outcome::Done,
+        wrong: places.len(),
+    }
 }
 
 // Where nothing was wrong the sums that the search was given are the word's own, and are not worked out again.
-fn passes_again(m: usize, t: usize, mended: &[u8], wrong: usize) -> bool
-    requires { ⌜ Listed m × (t ≤ 255) × CodeWord m t (now mended) ⌝ }
+fn passes_again(code: Code, mended: &[u8], wrong: usize) -> bool
+    requires { ⌜ Known code × CodeWord (code .m) (code .t) (now mended) ⌝ }
     ensures { λ r. ⌜ r ≡ true ⌝ }
 {
     if wrong == 0 {
         return true;
     }
-    search::vanish(m, t, mended)
+    locate::vanish(code.m, code.t, mended)
 }

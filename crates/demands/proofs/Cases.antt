@@ -3,35 +3,35 @@ use mathlib.Core.Path.{_≡_, _∙_, refl, sym, ap, ap₂, subst}
 use mathlib.Core.Bool.{Bool, true, false}
 use mathlib.Core.List.{List, [], _∷_, _++_, List·Memᴰ, List·Memᴰ·head, List·Memᴰ·tail, List·Memᴰ·not-nil}
 use Prim.Native.Nat.{ℕ, _+_, _-_, _*_, _<_}
-use native.Mathlib.Decide.{ℕ-discrete}
 use native.Mathlib.Omega.{arith}
 use lib.Dec.{T, eqb, leb, eqb→eq, leb→le}
 use lib.ListN.{length, getD, replicate, length-replicate}
 use Rattle.sheet.specs.declared.Refusal.the-variants.{NothingNear}
+use Rattle.sheet.specs.declared.Outcome.{Outcome}
+use Rattle.sheet.specs.declared.Outcome.the-variants.{Done, Refused}
+use Rattle.sheet.specs.Verdict.{finds-nothing}
+use Rattle.sheet.proofs.VerdictLaws.{does, always}
 use Rattle.bits.specs.Bits.{AreBits, listOf, firstAbove, flip, flipped}
 use Rattle.bits.specs.Differences.{differences, differencesFrom}
 use Rattle.bits.proofs.Lists.{length-list, list-at}
 use Rattle.bits.proofs.BitLaws.{length-flipped, bits-flipped, bits-replicate}
 use Rattle.bits.proofs.DistanceLaws.{distance-length}
 use Rattle.field.specs.Sum.{_⊕_}
-use Rattle.field.specs.Product.{Listed, polynomials, polynomial, digits, horner, carryless, shifted, remainder, _⊗⟨_⟩_}
+use Rattle.field.specs.Product.{IsField, polynomials, polynomial, digits, horner, carryless, shifted, remainder, _⊗⟨_⟩_}
 use Rattle.field.specs.Power.{nOf, power}
 use Rattle.field.proofs.Tests.{both, both-left, both-right, all, All, done, also, all-passed, passes, passed-at}
 use Rattle.codes.specs.Table.{first, firsts, ks, ts}
-use Rattle.codes.specs.Look.{rowFrom, rowOf, isListed, kOf}
+use Rattle.codes.specs.Look.{rowFrom, rowOf, isListed, kOf, codeOf, codeVerdict}
+use Rattle.codes.proofs.LookLaws.{past}
 use Rattle.codes.specs.Sums.{CodeWord, sumFrom, sumOf}
 use Rattle.codes.specs.Encoding.{Encoding}
 use Rattle.codes.proofs.SumLaws.{odd-sums}
-use Rattle.codec.specs.declared.encoding.Encoded.{Encoded}
-use Rattle.codec.specs.declared.encoding.Encoded.the-variants.{Done}
+use Rattle.codec.specs.Encode.{Encodes, encodeChecks}
 use Rattle.decode.specs.declared.Decoded.{Decoded}
-use Rattle.decode.specs.declared.Decoded.the-variants.{Mended, Refused}
-use Rattle.codec.specs.Encode.{Encodes, encodeRefusal}
-use Rattle.decode.specs.Work.{Ready}
-use Rattle.decode.specs.Decode.{Decodes, decodeRefusal, decodedNumber}
+use Rattle.decode.specs.Decode.{Decodes, Mended, Mends, Far, decodeChecks}
 use Rattle.decode.proofs.DecodeLaws.{near-located}
-use Rattle.demands.proofs.OneOutcome.{encoded-tells, encode-listed, encoding-one}
-use Rattle.demands.proofs.Near.{decode-ready, decoded-tells, refused-count, mended-is}
+use Rattle.demands.proofs.OneOutcome.{encode-one}
+use Rattle.demands.proofs.Near.{mendedBy, mended-is, decode-one}
 use Rattle.demands.proofs.NoSet.{zeroes, plusPlace, noSet, nothing-located}
 
 pub data Case : Type 0 where
@@ -72,17 +72,23 @@ bitsAt-bits : (n : ℕ) (ps : List ℕ) → AreBits (bitsAt n ps)
 unfolding bitsAt
 bitsAt-bits n ps = bits-flipped ps (bits-replicate n)
 
+-- the answer that no code word is near
+abbrev pub nothingNear : Decoded
+nothingNear = record { outcome = Refused NothingNear; wrong = 0 }
+
 -- what a case says: every outcome that the promise allows is this one
 abbrev pub Holds : Case → Type 0
 Holds (sent m t message word) =
-    (lent left : List ℕ) (x : Encoded) → length lent ≡ nOf m → Encodes m t (bitsAt (kOf m t) message) lent x left
+    (lent left : List ℕ) (x : Outcome) → length lent ≡ nOf m → Encodes m t (bitsAt (kOf m t) message) lent x left
     → (x ≡ Done) × (left ≡ bitsAt (nOf m) word)
 Holds (mended m t received places word) =
-    (lentWord lentList left list : List ℕ) (x : Decoded) → length lentWord ≡ nOf m → length lentList ≡ t → Decodes m t (bitsAt (nOf m) received) lentWord lentList x left list
-    → (x ≡ Mended (length places)) × (left ≡ bitsAt (nOf m) word) × (list ≡ places ++ replicate (t - length places) 0)
+    (lentWord lentList left list : List ℕ) (x : Decoded) → length lentWord ≡ nOf m → length lentList ≡ t
+    → Decodes m t (bitsAt (nOf m) received) lentWord lentList x left list
+    → (x ≡ mendedBy (length places)) × (left ≡ bitsAt (nOf m) word) × (list ≡ places ++ replicate (t - length places) 0)
 Holds (far m t received) =
-    (lentWord lentList left list : List ℕ) (x : Decoded) → length lentWord ≡ nOf m → length lentList ≡ t → Decodes m t (bitsAt (nOf m) received) lentWord lentList x left list
-    → (x ≡ Refused NothingNear) × (left ≡ lentWord) × (list ≡ lentList)
+    (lentWord lentList left list : List ℕ) (x : Decoded) → length lentWord ≡ nOf m → length lentList ≡ t
+    → Decodes m t (bitsAt (nOf m) received) lentWord lentList x left list
+    → (x ≡ nothingNear) × (left ≡ lentWord) × (list ≡ lentList)
 Holds (summed m received sums) = (i : ℕ) → i < length sums → sumOf m (2 * i + 1) (bitsAt (nOf m) received) ≡ getD sums i 0
 
 -- the tests
@@ -94,6 +100,11 @@ sameList [] (y ∷ ys) = false
 sameList (x ∷ xs) [] = false
 sameList (x ∷ xs) (y ∷ ys) = both (eqb x y) (sameList xs ys)
 
+-- the checks come to nothing
+unfoldable isDone : Outcome → Bool
+isDone Done = true
+isDone (Refused r) = false
+
 unfoldable hasSums : ℕ → List ℕ → List ℕ → Bool
 hasSums m word sums = passes (λ i. eqb (sumOf m (2 * i + 1) word) (getD sums i 0)) 0 (length sums)
 
@@ -102,14 +113,14 @@ isCodeWord m t word = passes (λ i. eqb (sumOf m (2 * i + 1) word) 0) 0 t
 
 unfoldable sentTests : ℕ → ℕ → List ℕ → List ℕ → List Bool
 sentTests m t message word =
-    eqb (encodeRefusal m t (bitsAt (kOf m t) message) (bitsAt (nOf m) word)) 0
+    isDone (codeVerdict m t (encodeChecks (bitsAt (kOf m t) message) (bitsAt (nOf m) word)))
     ∷ isCodeWord m t (bitsAt (nOf m) word)
     ∷ passes (λ i. eqb (getD (bitsAt (nOf m) word) (nOf m - kOf m t + i) 0) (getD (bitsAt (kOf m t) message) i 0)) 0 (kOf m t)
     ∷ []
 
 -- the checks pass where the buffers are as long as they must be
 unfoldable checksPass : ℕ → ℕ → List ℕ → List ℕ → Bool
-checksPass m t received word = eqb (decodeRefusal m t received (bitsAt (nOf m) word) (replicate t 0)) 0
+checksPass m t received word = isDone (codeVerdict m t (decodeChecks received (bitsAt (nOf m) word) (replicate t 0)))
 
 unfoldable mendedTests : ℕ → ℕ → List ℕ → List ℕ → List ℕ → List Bool
 mendedTests m t received places word =
@@ -145,78 +156,101 @@ same-list (x ∷ xs) (y ∷ ys) t =
 below-passed : (f : ℕ → Bool) (n : ℕ) → T (passes f 0 n) → (i : ℕ) → i < n → T (f i)
 below-passed f n t i h = passed-at f 0 n t i (omega arith) (omega arith)
 
-code-word : {m : ℕ} (t : ℕ) → Listed m → (ps : List ℕ) → T (isCodeWord m t (bitsAt (nOf m) ps)) → CodeWord m t (bitsAt (nOf m) ps)
+code-word : {m : ℕ} (t : ℕ) → IsField m → (ps : List ℕ) → T (isCodeWord m t (bitsAt (nOf m) ps)) → CodeWord m t (bitsAt (nOf m) ps)
 unfolding isCodeWord
 code-word {m} t L ps z =
     let word : List ℕ = bitsAt (nOf m) ps in
     record {
       long = bitsAt-long (nOf m) ps;
       bits = bitsAt-bits (nOf m) ps;
-      sums = odd-sums L word (bitsAt-bits (nOf m) ps) t (λ i h. eqb→eq (sumOf m (2 * i + 1) word) 0 (below-passed (λ j. eqb (sumOf m (2 * j + 1) word) 0) t z i h));
+      sums =
+          odd-sums L word (bitsAt-bits (nOf m) ps) t
+          (λ i h. eqb→eq (sumOf m (2 * i + 1) word) 0 (below-passed (λ j. eqb (sumOf m (2 * j + 1) word) 0) t z i h));
     }
 
--- a refusal looks at the lengths of the lent buffers only
-encode-lent : (m t : ℕ) (message lent lent′ : List ℕ) → length lent ≡ length lent′ → encodeRefusal m t message lent ≡ encodeRefusal m t message lent′
-unfolding encodeRefusal
+done-is : (v : Outcome) → T (isDone v) → v ≡ Done
+unfolding isDone
+done-is Done t = refl
+done-is (Refused r) t = absurd t
+
+-- the checks look at the lengths of the lent buffers only
+encode-lent : (m t : ℕ) (message lent lent′ : List ℕ) → length lent ≡ length lent′
+    → codeVerdict m t (encodeChecks message lent) ≡ codeVerdict m t (encodeChecks message lent′)
 encode-lent m t message lent lent′ e = rw e refl
 
-decode-lent : (m t : ℕ) (received word list word′ list′ : List ℕ) → length word ≡ length word′ → length list ≡ length list′ → decodeRefusal m t received word list ≡ decodeRefusal m t received word′ list′
-unfolding decodeRefusal
+decode-lent : (m t : ℕ) (received word list word′ list′ : List ℕ) → length word ≡ length word′ → length list ≡ length list′
+    → codeVerdict m t (decodeChecks received word list) ≡ codeVerdict m t (decodeChecks received word′ list′)
 decode-lent m t received word list word′ list′ e l = rw (e, l) refl
 
-lent-passes : (m t : ℕ) (received word lentWord lentList : List ℕ) → length lentWord ≡ nOf m → length lentList ≡ t → T (checksPass m t received word) → decodeRefusal m t received lentWord lentList ≡ 0
+lent-passes : (m t : ℕ) (received word lentWord lentList : List ℕ) → length lentWord ≡ nOf m → length lentList ≡ t → T (checksPass m t received word)
+    → codeVerdict m t (decodeChecks received lentWord lentList) ≡ Done
 unfolding checksPass
 lent-passes m t received word lentWord lentList k l a =
-    decode-lent m t received lentWord lentList (bitsAt (nOf m) word) (replicate t 0) (k ∙ sym (bitsAt-long (nOf m) word)) (l ∙ sym (length-replicate {A = ℕ} t 0)) ∙ eqb→eq _ 0 a
+    decode-lent m t received lentWord lentList (bitsAt (nOf m) word) (replicate t 0) (k ∙ sym (bitsAt-long (nOf m) word))
+    (l ∙ sym (length-replicate {A = ℕ} t 0)) ∙ done-is _ a
 
 sent-holds : (m t : ℕ) (message word : List ℕ) → All (sentTests m t message word) → Holds (sent m t message word)
 unfolding sentTests
-sent-holds m t message word (also a (also b (also c done))) lent left x l p =
-    let z : encodeRefusal m t (bitsAt (kOf m t) message) lent ≡ 0 = encode-lent m t (bitsAt (kOf m t) message) lent (bitsAt (nOf m) word) (l ∙ sym (bitsAt-long (nOf m) word)) ∙ eqb→eq _ 0 a in
-    let L = encode-listed m t (bitsAt (kOf m t) message) lent z in
-    let E : Encoding m t (kOf m t) (bitsAt (kOf m t) message) (bitsAt (nOf m) word) =
-    record { code-word = code-word t (L .of-m .listed) word b; carries = λ i h. eqb→eq _ _ (below-passed (λ j. eqb (getD (bitsAt (nOf m) word) (nOf m - kOf m t + j) 0) (getD (bitsAt (kOf m t) message) j 0)) (kOf m t) c i h) } in
-    (encoded-tells x Done (p .number ∙ z), encoding-one L (p .done z) E)
+sent-holds m t message word (also a (also b (also c done))) lent left x l p = encode-one p (record { promise = does z (always E) })
+  where
+    bits : List ℕ
+    bits = bitsAt (kOf m t) message
+
+    z : codeVerdict m t (encodeChecks bits lent) ≡ Done
+    z = encode-lent m t bits lent (bitsAt (nOf m) word) (l ∙ sym (bitsAt-long (nOf m) word)) ∙ done-is _ a
+
+    E : Encoding m t (kOf m t) bits (bitsAt (nOf m) word)
+    E =
+        record {
+          code-word = code-word t (past m t (encodeChecks bits lent (codeOf m t)) z .known .of-m .listed) word b;
+          carries = λ i h.
+              eqb→eq _ _ (below-passed (λ j. eqb (getD (bitsAt (nOf m) word) (nOf m - kOf m t + j) 0) (getD bits j 0)) (kOf m t) c i h);
+        }
 
 mended-holds : (m t : ℕ) (received places word : List ℕ) → All (mendedTests m t received places word) → Holds (mended m t received places word)
 unfolding mendedTests
-mended-holds m t received places word (also a (also b (also c (also d done)))) lentWord lentList left list x k l p =
-    let z = lent-passes m t (bitsAt (nOf m) received) word lentWord lentList k l a in
-    let R = decode-ready m t (bitsAt (nOf m) received) lentWord lentList z in
-    let e = same-list (differences (bitsAt (nOf m) received) (bitsAt (nOf m) word)) places c in
-    mended-is
-    (record {
-      code-word = code-word t (R .accepted .listed) word b;
-      counts = distance-length (bitsAt (nOf m) received) (bitsAt (nOf m) word) ∙ ap length e;
-      within = leb→le (length places) t d;
-      lists = ap (λ (ps : List ℕ). ps ++ replicate (t - length places) 0) (sym e);
-    })
-    z p
+mended-holds m t received places word (also a (also b (also c (also d done)))) lentWord lentList left list x k l p = mended-is given mends z p
+  where
+    came : List ℕ
+    came = bitsAt (nOf m) received
+
+    z : codeVerdict m t (decodeChecks came lentWord lentList) ≡ Done
+    z = lent-passes m t came word lentWord lentList k l a
+
+    differ : differences came (bitsAt (nOf m) word) ≡ places
+    differ = same-list (differences came (bitsAt (nOf m) word)) places c
+
+    given : Mended
+    given = record { wrong = length places; word = bitsAt (nOf m) word; list = places ++ replicate (t - length places) 0 }
+
+    mends : Mends m t t came given
+    mends =
+        record {
+          code-word = code-word t (past m t (decodeChecks came lentWord lentList (codeOf m t)) z .known .of-m .listed) word b;
+          counts = distance-length came (bitsAt (nOf m) word) ∙ ap length differ;
+          within = leb→le (length places) t d;
+          lists = ap (λ (ps : List ℕ). ps ++ replicate (t - length places) 0) (sym differ);
+        }
 
 far-holds : (m t : ℕ) (received : List ℕ) → All (farTests m t received) → Holds (far m t received)
 unfolding farTests
-far-holds m t received (also a (also b done)) lentWord lentList left list x k l p = pick (ℕ-discrete (decodedNumber x) 0)
+far-holds m t received (also a (also b done)) lentWord lentList left list x k l p =
+    decode-one p (record { promise = does z (finds-nothing refl nothing refl) })
   where
-    w : List ℕ
-    w = bitsAt (nOf m) received
-
-    z : decodeRefusal m t w lentWord lentList ≡ 0
-    z = lent-passes m t w received lentWord lentList k l a
-
-    R : Ready m t w lentWord lentList
-    R = decode-ready m t w lentWord lentList z
+    came : List ℕ
+    came = bitsAt (nOf m) received
 
     f : ℕ → ℕ
-    f i = sumOf m (2 * i + 1) w
+    f i = sumOf m (2 * i + 1) came
 
-    pick : Dec (decodedNumber x ≡ 0) → (x ≡ Refused NothingNear) × (left ≡ lentWord) × (list ≡ lentList)
-    pick (yes e) =
-        let M = p .found z .mended e in
-        absurd (nothing-located (length-list t f) b (differences w left)
-        (near-located (R .accepted .listed) (R .received-bits) (R .received-long) (list-at t f) left (M .code-word) (omega (arith, M .counts, M .within))))
-    pick (no n) =
-        let s = p .kept n in
-        (decoded-tells x (Refused NothingNear) (p .found z .far n .0) (refused-count x n), s .0, s .1)
+    z : codeVerdict m t (decodeChecks came lentWord lentList) ≡ Done
+    z = lent-passes m t came received lentWord lentList k l a
+
+    nothing : Far m t t came
+    nothing c C h =
+        let L = past m t (decodeChecks came lentWord lentList (codeOf m t)) z .known .of-m .listed in
+        nothing-located (length-list t f) b (differences came c)
+        (near-located L (bitsAt-bits (nOf m) received) (bitsAt-long (nOf m) received) (list-at t f) c C h)
 
 summed-holds : (m : ℕ) (received sums : List ℕ) → T (hasSums m (bitsAt (nOf m) received) sums) → Holds (summed m received sums)
 unfolding hasSums
@@ -237,7 +271,9 @@ tests [] = true
 tests (c ∷ cs) = both (test c) (tests cs)
 
 tested : T (tests cases)
-unfolding tests cases test sentTests mendedTests farTests checksPass isCodeWord hasSums sameList bitsAt noSet zeroes plusPlace listOf encodeRefusal decodeRefusal isListed rowOf rowFrom kOf first firsts ks ts firstAbove flip flipped differences differencesFrom sumOf sumFrom power _⊗⟨_⟩_ remainder carryless horner digits shifted polynomial polynomials _⊕_
+unfolding tests cases test sentTests mendedTests farTests checksPass isDone isCodeWord hasSums sameList bitsAt noSet zeroes plusPlace listOf isListed
+    rowOf rowFrom kOf first firsts ks ts firstAbove flip flipped differences differencesFrom sumOf sumFrom power _⊗⟨_⟩_ remainder carryless horner
+    digits shifted polynomial polynomials _⊕_
 tested = tt
 
 each : (cs : List Case) → T (tests cs) → (c : Case) → List·Memᴰ c cs → Holds c

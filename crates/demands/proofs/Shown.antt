@@ -37,7 +37,8 @@ pub record Remainder (d : ℕ) (g c r : List ℕ) : Type 0 where
   pub below : (i : ℕ) → d ≤ i → getD r i 0 ≡ 0
   pub whole : (i : ℕ) → getD c i 0 ≡ getD (productBits quotient g) i 0 ⊕ getD r i 0
 
-module _ {m row : ℕ} (w : RowOf m row) {message word : List ℕ} (long : length message ≡ getD ks row 0) (E : Encoding m (getD ts row 0) (getD ks row 0) message word) where
+module _ {m row : ℕ} (w : RowOf m row) {message word : List ℕ} (long : length message ≡ getD ks row 0)
+    (E : Encoding m (getD ts row 0) (getD ks row 0) message word) where
   -- x^(n-k) times the message is the word without its parity
   message-part : (i : ℕ) → getD (replicate (nOf m - getD ks row 0) 0 ++ message) i 0 ≡ getD word i 0 ⊕ getD (take (nOf m - getD ks row 0) word) i 0
   message-part i = pick (decLt i (nOf m - getD ks row 0)) (decLt i (nOf m))
@@ -60,7 +61,8 @@ module _ {m row : ℕ} (w : RowOf m row) {message word : List ℕ} (long : lengt
       pick : Dec (i < d) → Dec (i < nOf m) → getD (replicate d 0 ++ message) i 0 ≡ getD word i 0 ⊕ getD (take d word) i 0
       pick (yes h) b = delayed-before d message i h ∙ sym (ap (λ (x : ℕ). getD word i 0 ⊕ x) (getD-take d word i 0 h) ∙ sum-self (getD word i 0))
       pick (no n) (yes h) =
-          delayed-at d message i (omega arith) ∙ sym (E .carries (i - d) (omega (arith, fits))) ∙ ap (λ (x : ℕ). getD word x 0) (back (omega arith)) ∙ sym (upper (omega arith))
+          delayed-at d message i (omega arith) ∙ sym (E .carries (i - d) (omega (arith, fits))) ∙ ap (λ (x : ℕ). getD word x 0) (back (omega arith))
+          ∙ sym (upper (omega arith))
       pick (no n) (no l) =
           delayed-at d message i (omega arith) ∙ List·getD-eq-default message 0 {n = i - d} (omega (arith, long, fits))
           ∙ sym (upper (omega arith) ∙ List·getD-eq-default word 0 {n = i} (omega (arith, E .code-word .long)))

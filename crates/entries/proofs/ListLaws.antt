@@ -16,7 +16,8 @@ pub record Listing (places first list : List ℕ) (i : ℕ) : Type 0 where
   pub within : i ≤ length first
   pub holds : (j : ℕ) → j < i → getD list j 0 ≡ getD places j 0
 
-pub listing-next : {places first list : List ℕ} {i x : ℕ} → Listing places first list i → i < length list → x ≡ getD places i 0 → Listing places first (set list i x) (i + 1)
+pub listing-next : {places first list : List ℕ} {i x : ℕ} → Listing places first list i → i < length list → x ≡ getD places i 0
+    → Listing places first (set list i x) (i + 1)
 listing-next {places} {first} {list} {i} {x} s h e =
     record {
       fits = s .fits;
@@ -25,7 +26,8 @@ listing-next {places} {first} {list} {i} {x} s h e =
       holds = below-more _ i (λ j k. getD-set-other list i j x 0 (ne-of-lt k) ∙ s .holds j k) (getD-set-same list i x 0 h ∙ e);
     }
 
-pub listing-done : {places first list : List ℕ} {i : ℕ} → Listing places first list i → length list ≤ i → list ≡ places ++ replicate (length first - length places) 0
+pub listing-done : {places first list : List ℕ} {i : ℕ} → Listing places first list i → length list ≤ i
+    → list ≡ places ++ replicate (length first - length places) 0
 listing-done {places} {first} {list} {i} s h =
     ext-getD 0 list (places ++ replicate (length first - length places) 0)
     (s .same ∙ long)

@@ -6,7 +6,7 @@ use Prim.Native.Nat.{ℕ, _-_, _*_, _%_, _^_, _≤_, _<_}
 use native.Mathlib.Nat.{mod-lt, mod-eq-of-lt, mod-eq-sub-mod}
 use native.Mathlib.Omega.{arith}
 use lib.ListN.{getD}
-use Rattle.field.specs.Product.{Listed}
+use Rattle.field.specs.Product.{IsField}
 use Rattle.field.specs.Power.{a, nOf, power}
 use Rattle.field.specs.Tables.{Tables}
 use Rattle.field.proofs.Order.{eight-bound, power-mod, every-power}
@@ -22,7 +22,7 @@ around-past {n} {e} h k = sym (mod-eq-sub-mod k ∙ mod-eq-of-lt less)
     less : e - n < n
     less = omega arith
 
-module _ {m : ℕ} (L : Listed m) where
+module _ {m : ℕ} (L : IsField m) where
   pub around-below : {n r : ℕ} (e : ℕ) → n ≡ nOf m → r ≡ e % n → r < nOf m
   around-below {n} {r} e is q = rw (q ∙ ap (λ k. e % k) is) (mod-lt e (omega (arith, eight-bound L)))
 

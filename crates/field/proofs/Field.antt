@@ -10,7 +10,7 @@ use lib.Pow.{pow-pos}
 use Rattle.algebra.specs.Ring.{Ring, Field}
 use Rattle.algebra.specs.Series as Series
 use Rattle.field.specs.Sum as Sum
-use Rattle.field.specs.Product.{Listed, _⊗⟨_⟩_}
+use Rattle.field.specs.Product.{IsField, _⊗⟨_⟩_}
 use Rattle.field.specs.Power.{power}
 use Rattle.field.specs.Power as Power
 use Rattle.field.proofs.SumLaws.{sum-comm, sum-assoc, sum-self, sum-zero, sum-bound}
@@ -27,7 +27,7 @@ el-path = Σ-prop-path (λ x. le-prop)
 abbrev pub element : {b : ℕ} (x : ℕ) → x < b → (n : ℕ) × (n < b)
 element x h = (x, h)
 
-abbrev pub ringOf : (m : ℕ) → Listed m → Ring
+abbrev pub ringOf : (m : ℕ) → IsField m → Ring
 ringOf m L = record {
   El = Element m;
   𝟘 = (0, pow-pos m);
@@ -45,19 +45,19 @@ ringOf m L = record {
 }
 
 -- zero can be told
-unfoldable pub zero? : {m : ℕ} (L : Listed m) (x : Element m) → Dec (x ≡ ringOf m L .𝟘)
+unfoldable pub zero? : {m : ℕ} (L : IsField m) (x : Element m) → Dec (x ≡ ringOf m L .𝟘)
 zero? {m} L x = pick (ℕ-discrete (x .0) 0)
   where
     pick : Dec (x .0 ≡ 0) → Dec (x ≡ ringOf m L .𝟘)
     pick (yes e) = yes (el-path e)
     pick (no n) = no (λ e. n (fst-path e))
 
-pub one-not-zero : {m : ℕ} (L : Listed m) → ringOf m L .𝟙 ≢ ringOf m L .𝟘
+pub one-not-zero : {m : ℕ} (L : IsField m) → ringOf m L .𝟙 ≢ ringOf m L .𝟘
 one-not-zero L e =
     let n : _≡_ {A = ℕ} 1 0 = fst-path e in
     omega arith
 
-abbrev pub field : (m : ℕ) → Listed m → Field
+abbrev pub field : (m : ℕ) → IsField m → Field
 field m L = record {
   ring = ringOf m L;
   inverse = λ x. (Power.inverse m (x .0), inverse-bound L (x .0));
@@ -67,7 +67,7 @@ field m L = record {
 }
 
 -- a power in the field is the power of the number
-pub power-number : {m : ℕ} (L : Listed m) (x : Element m) (e : ℕ) → (Series.power (ringOf m L) x e) .0 ≡ power m (x .0) e
+pub power-number : {m : ℕ} (L : IsField m) (x : Element m) (e : ℕ) → (Series.power (ringOf m L) x e) .0 ≡ power m (x .0) e
 unfolding Series.power
 power-number {m} L x zero = sym (power-zero m (x .0))
 power-number {m} L x (suc e) = ap (λ z. x .0 ⊗⟨ m ⟩ z) (power-number L x e) ∙ sym (power-suc m (x .0) e)

@@ -18,7 +18,11 @@ double-additive = record { at-zero = refl; at-sum = sum-double }
 
 -- a lowest digit times x
 pub digit-additive : (x : ℕ) → Additive (λ z. x % 2 * z)
-digit-additive x = record { at-zero = mul-zero (x % 2); at-sum = λ y z. digit-cases (λ d. d * (y ⊕ z) ≡ d * y ⊕ d * z) (simp (zero-mul, zero-sum)) (simp one-mul) x }
+digit-additive x =
+    record {
+      at-zero = mul-zero (x % 2);
+      at-sum = λ y z. digit-cases (λ d. d * (y ⊕ z) ≡ d * y ⊕ d * z) (simp (zero-mul, zero-sum)) (simp one-mul) x;
+    }
 
 -- an additive function and a digit change places
 pub at-digit : {f : ℕ → ℕ} → Additive f → (x z : ℕ) → f (x % 2 * z) ≡ x % 2 * f z

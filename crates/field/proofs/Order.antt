@@ -10,7 +10,7 @@ use native.Mathlib.Omega.{arith}
 use lib.Dec.{T}
 use lib.Pow.{pow-mono}
 use Rattle.field.specs.Sum.{_⊕_}
-use Rattle.field.specs.Product.{polynomials, polynomial, Listed, shifted, _⊗⟨_⟩_}
+use Rattle.field.specs.Product.{polynomials, polynomial, IsField, shifted, _⊗⟨_⟩_}
 use Rattle.field.specs.Power.{a, nOf, power, inverse}
 use Rattle.field.proofs.Tests.{both, both-left, both-right, passes, at-listed}
 use Rattle.field.proofs.ProductLaws.{one-product, zero-product, times-a}
@@ -33,10 +33,10 @@ unfolding orderTest polynomial polynomials shifted _⊕_
 order-tested = tt
 
 -- a power that is 1, taken any number of times
-power-wrapped : {m : ℕ} → Listed m → (x n e : ℕ) → power m x n ≡ 1 → power m x (e * n) ≡ 1
+power-wrapped : {m : ℕ} → IsField m → (x n e : ℕ) → power m x n ≡ 1 → power m x (e * n) ≡ 1
 power-wrapped {m} L x n e h = ap (power m x) (mul-comm e n) ∙ power-mul L x n e ∙ ap (λ z. power m z e) h ∙ one-power L e
 
-module _ {m : ℕ} (L : Listed m) where
+module _ {m : ℕ} (L : IsField m) where
   pub eight-bound : 8 ≤ 2 ^ m
   eight-bound = pow-mono (L .least)
 

@@ -3,9 +3,10 @@ use mathlib.Core.Path.{_≡_, _∙_, refl, sym, ap}
 use Prim.Native.Nat.{ℕ, zero, suc, _+_, _-_, _*_, _/_, _%_, _^_, _<_}
 use native.Mathlib.Nat.{zero-add, suc-add, mul-zero, mul-suc}
 use native.Mathlib.Omega.{arith}
-use Rattle.field.specs.Product.{Listed, _⊗⟨_⟩_}
+use Rattle.field.specs.Product.{IsField, _⊗⟨_⟩_}
 use Rattle.field.specs.Power.{power, inverse}
-use Rattle.field.proofs.ProductLaws.{degree, one-below, product-comm, product-bound, product-assoc, product-one, one-product, zero-product, product-rearrange}
+use Rattle.field.proofs.ProductLaws.{degree, one-below, product-comm, product-bound, product-assoc, product-one}
+use Rattle.field.proofs.ProductLaws.{one-product, zero-product, product-rearrange}
 
 pub power-zero : (m x : ℕ) → power m x 0 ≡ 1
 unfolding power
@@ -15,7 +16,7 @@ pub power-suc : (m x e : ℕ) → power m x (suc e) ≡ x ⊗⟨ m ⟩ power m x
 unfolding power
 power-suc m x e = refl
 
-module _ {m : ℕ} (L : Listed m) where
+module _ {m : ℕ} (L : IsField m) where
   pub one-bound : 1 < 2 ^ m
   one-bound = one-below (degree L)
 
@@ -67,7 +68,8 @@ module _ {m : ℕ} (L : Listed m) where
   pub power-half-odd : (x e : ℕ) → e % 2 ≡ 1 → power m x e ≡ power m x (e / 2) ⊗⟨ m ⟩ power m x (e / 2) ⊗⟨ m ⟩ x
   power-half-odd x e h =
       let d : e ≡ suc (2 * (e / 2)) = omega arith in
-      ap (power m x) d ∙ power-suc m x (2 * (e / 2)) ∙ ap (λ z. x ⊗⟨ m ⟩ z) (power-even x (e / 2)) ∙ product-comm m x (power m x (e / 2) ⊗⟨ m ⟩ power m x (e / 2))
+      ap (power m x) d ∙ power-suc m x (2 * (e / 2)) ∙ ap (λ z. x ⊗⟨ m ⟩ z) (power-even x (e / 2))
+      ∙ product-comm m x (power m x (e / 2) ⊗⟨ m ⟩ power m x (e / 2))
 
   pub inverse-bound : (x : ℕ) → inverse m x < 2 ^ m
   unfolding inverse

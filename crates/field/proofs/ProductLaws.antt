@@ -8,10 +8,11 @@ use lib.Arith.{bin-ind}
 use lib.Dec.{T, leb, ltb, leb→le, ltb→lt}
 use lib.Pow.{pow-lt, pow-pos}
 use Rattle.field.specs.Sum.{_⊕_}
-use Rattle.field.specs.Product.{polynomials, polynomial, Listed, horner, carryless, shifted, remainder, _⊗⟨_⟩_}
+use Rattle.field.specs.Product.{polynomials, polynomial, IsField, horner, carryless, shifted, remainder, _⊗⟨_⟩_}
 use Rattle.field.proofs.SumLaws.{sum, sum-zero, zero-sum, sum-self, sum-bound, sum-above, sum-exchange, sum-double, digit-cases, digit-times, digits-sum}
 use Rattle.field.proofs.Tests.{both, both-left, both-right, passes, at-listed}
-use Rattle.field.proofs.Horner.{Additive, double-additive, horner-digits, horner-zero, horner-one, horner-double, horner-carry, sum-horner, digit-horner, zero-horner, start-additive, digits-additive}
+use Rattle.field.proofs.Horner.{Additive, double-additive, horner-digits, horner-zero, horner-one, horner-double}
+use Rattle.field.proofs.Horner.{horner-carry, sum-horner, digit-horner, zero-horner, start-additive, digits-additive}
 
 pub shifted-additive : (m p : ℕ) → Additive (shifted m p)
 unfolding shifted
@@ -178,7 +179,7 @@ degree-tested : T (passes degreeTest 3 8)
 unfolding degreeTest polynomial polynomials
 degree-tested = tt
 
-pub degree : {m : ℕ} → Listed m → Degree m (polynomial m)
+pub degree : {m : ℕ} → IsField m → Degree m (polynomial m)
 unfolding degreeTest
 degree {m} L =
     let t : T (both (leb (2 ^ m) (polynomial m)) (ltb (polynomial m) (2 ^ suc m))) = at-listed degreeTest degree-tested L in
@@ -218,7 +219,7 @@ product-horner m x y = remainder-carryless m (polynomial m) x y
 horner-exchange : {f : ℕ → ℕ} → Additive f → (x y z : ℕ) → horner f (horner f x y) z ≡ horner f (horner f x z) y
 horner-exchange {f} F x y z = horner-carry (start-additive F z) F F (λ u. sym (horner-carry F F F (λ v. refl) u z)) x y
 
-module _ {m : ℕ} (L : Listed m) where
+module _ {m : ℕ} (L : IsField m) where
   product-remainder : (x y : ℕ) → remainder m (polynomial m) (x ⊗⟨ m ⟩ y) ≡ x ⊗⟨ m ⟩ y
   unfolding _⊗⟨_⟩_
   product-remainder x y = remainder-idle (degree L) (carryless x y)
@@ -260,9 +261,9 @@ module _ {m : ℕ} (L : Listed m) where
 pub ruleset product =
     (sum, product-assoc, product-comm, product-left-comm, product-one, one-product, product-over, over-product, product-zero, zero-product)
 
-pub product-rearrange : {m : ℕ} → Listed m → (x y z w : ℕ) → x ⊗⟨ m ⟩ y ⊗⟨ m ⟩ (z ⊗⟨ m ⟩ w) ≡ x ⊗⟨ m ⟩ z ⊗⟨ m ⟩ (y ⊗⟨ m ⟩ w)
+pub product-rearrange : {m : ℕ} → IsField m → (x y z w : ℕ) → x ⊗⟨ m ⟩ y ⊗⟨ m ⟩ (z ⊗⟨ m ⟩ w) ≡ x ⊗⟨ m ⟩ z ⊗⟨ m ⟩ (y ⊗⟨ m ⟩ w)
 product-rearrange L x y z w = simp product
 
 -- squaring is additive
-pub square-sum : {m : ℕ} → Listed m → (x y : ℕ) → (x ⊕ y) ⊗⟨ m ⟩ (x ⊕ y) ≡ x ⊗⟨ m ⟩ x ⊕ y ⊗⟨ m ⟩ y
+pub square-sum : {m : ℕ} → IsField m → (x y : ℕ) → (x ⊕ y) ⊗⟨ m ⟩ (x ⊕ y) ≡ x ⊗⟨ m ⟩ x ⊕ y ⊗⟨ m ⟩ y
 square-sum L x y = simp product

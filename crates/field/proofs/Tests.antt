@@ -6,7 +6,7 @@ use Prim.Native.Nat.{ℕ, zero, suc, _+_, _-_, _≤_, _<_}
 use native.Mathlib.Nat.{add-zero, not-suc-le-zero}
 use native.Mathlib.Omega.{arith}
 use lib.Dec.{T}
-use Rattle.field.specs.Product.{Listed}
+use Rattle.field.specs.Product.{IsField}
 
 abbrev pub both : Bool → Bool → Bool
 both true b = b
@@ -37,7 +37,7 @@ passed-at f s n t x l h =
     let e : s + (x - s) ≡ x = omega arith in
     subst (λ k. T (f k)) e (passed f s n t (x - s) (omega arith))
 
-pub at-listed : (f : ℕ → Bool) → T (passes f 3 8) → {m : ℕ} → Listed m → T (f m)
+pub at-listed : (f : ℕ → Bool) → T (passes f 3 8) → {m : ℕ} → IsField m → T (f m)
 at-listed f t {m} L = passed-at f 3 8 t m (L .least) (omega arith)
 
 abbrev pub all : List Bool → Bool

@@ -1,4 +1,5 @@
--- The field product: "the polynomial product reduced by the field polynomial". A number stands for a polynomial: its binary digit at place i is the coefficient of x^i.
+-- The field product: "the polynomial product reduced by the field polynomial".
+-- A number stands for a polynomial: its binary digit at place i is the coefficient of x^i.
 use mathlib.Core.List.{List, [], _∷_}
 use Prim.Native.Nat.{ℕ, zero, suc, _-_, _*_, _/_, _%_, _^_, _≤_}
 use lib.ListN.{getD}
@@ -13,7 +14,7 @@ unfoldable pub polynomial : ℕ → ℕ
 polynomial m = getD polynomials (m - 3) 0
 
 -- m is from 3 to 10
-pub record Listed (m : ℕ) : Type 0 where
+pub record IsField (m : ℕ) : Type 0 where
   pub least : 3 ≤ m
   pub most : m ≤ 10
 

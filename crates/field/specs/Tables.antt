@@ -3,7 +3,7 @@ use mathlib.Core.Path.{_≡_}
 use mathlib.Core.List.{List}
 use Prim.Native.Nat.{ℕ, _*_, _^_, _≤_, _<_}
 use lib.ListN.{length, getD}
-use Rattle.field.specs.Product.{Listed}
+use Rattle.field.specs.Product.{IsField}
 use Rattle.field.specs.Power.{a, nOf, power}
 
 -- place i holds a^i, twice around, so that the sum of two logarithms is a place
@@ -18,6 +18,6 @@ pub record Logs (m : ℕ) (logs : List ℕ) : Type 0 where
 
 -- what the product works by, for an m from 3 to 10
 pub record Tables (m : ℕ) (powers logs : List ℕ) : Type 0 where
-  pub listed : Listed m
+  pub listed : IsField m
   pub powers-hold : Powers m powers
   pub logs-hold : Logs m logs

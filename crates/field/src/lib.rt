@@ -3,7 +3,7 @@
 ghost use mathlib.Core.Path.{_≡_};
 ghost use Prim.Native.Nat.{_+_, _*_, _%_, _^_, _<_};
 ghost use lib.ListN.{length};
-ghost use Rattle.field.specs.Product.{Listed, polynomial, _⊗⟨_⟩_};
+ghost use Rattle.field.specs.Product.{IsField, polynomial, _⊗⟨_⟩_};
 ghost use Rattle.field.specs.Power.{a, nOf, power, inverse};
 ghost use Rattle.field.specs.Tables.{Powers, Tables};
 
@@ -11,7 +11,7 @@ ghost use Rattle.field.specs.Tables.{Powers, Tables};
 const POLYNOMIALS: [u16; 8] = [11, 19, 37, 67, 131, 285, 529, 1033];
 
 pub fn polynomial(m: usize) -> u16
-    requires { ⌜ Listed m ⌝ }
+    requires { ⌜ IsField m ⌝ }
     ensures { λ r. ⌜ r ≡ polynomial m ⌝ }
 {
     POLYNOMIALS[m - 3]
@@ -19,7 +19,7 @@ pub fn polynomial(m: usize) -> u16
 
 // n, the number of nonzero elements and of a word's places.
 pub fn n_of(m: usize) -> usize
-    requires { ⌜ Listed m ⌝ }
+    requires { ⌜ IsField m ⌝ }
     ensures { λ r. ⌜ r ≡ nOf m ⌝ }
 {
     (1 << m) - 1
@@ -27,7 +27,7 @@ pub fn n_of(m: usize) -> usize
 
 // x times a: its digits move up one place, and the polynomial p is taken away where place m then holds 1.
 pub fn times_a(m: usize, p: u16, x: u16) -> u16
-    requires { ⌜ (Listed m) × (p ≡ polynomial m) × (x < 2 ^ m) ⌝ }
+    requires { ⌜ (IsField m) × (p ≡ polynomial m) × (x < 2 ^ m) ⌝ }
     ensures { λ r. ⌜ r ≡ a ⊗⟨ m ⟩ x ⌝ }
 {
     let twice = 2 * x;
@@ -54,7 +54,7 @@ pub fn logs_space() -> [u16; 1024]
 
 // Twice around, the places 0 to 2n - 1: a^n is 1, so each power stands at two places.
 pub fn fill_powers(m: usize, powers: &mut [u16])
-    requires { ⌜ (Listed m) × (2046 ≡ length (now powers)) ⌝ }
+    requires { ⌜ (IsField m) × (2046 ≡ length (now powers)) ⌝ }
     ensures { λ _. ⌜ Powers m (now (powers .exit)) ⌝ }
 {
     let p = polynomial(m);
@@ -70,7 +70,7 @@ pub fn fill_powers(m: usize, powers: &mut [u16])
 }
 
 pub fn fill_logs(m: usize, powers: &[u16], logs: &mut [u16])
-    requires { ⌜ (Listed m) × (Powers m (now powers)) × (1024 ≡ length (now logs)) ⌝ }
+    requires { ⌜ (IsField m) × (Powers m (now powers)) × (1024 ≡ length (now logs)) ⌝ }
     ensures { λ _. ⌜ Tables m (now (powers .entry)) (now (logs .exit)) ⌝ }
 {
     let n = n_of(m);

@@ -1,7 +1,7 @@
 // Values of the field that can be told without this code: GF(16) from the papers, and for each m what the definitions give by hand.
 
 ghost use Prim.Native.Nat.{_^_, _<_};
-ghost use Rattle.field.specs.Product.{Listed};
+ghost use Rattle.field.specs.Product.{IsField};
 ghost use Rattle.field.specs.Tables.{Tables};
 use libc::STDOUT_FILENO;
 
@@ -94,7 +94,7 @@ fn values_line(m: usize, powers: &[u16], logs: &[u16])
 }
 
 fn field_line(m: usize)
-    requires { ⌜ Listed m ⌝ }
+    requires { ⌜ IsField m ⌝ }
 {
     let mut powers = field::powers_space();
     let mut logs = field::logs_space();

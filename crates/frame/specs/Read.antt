@@ -1,55 +1,58 @@
 -- Reading a frame: "A frame read gives the reading and the number of wrong places." Refusals 9, 10, 6, 11, in this order.
 use mathlib.Core.Path.{_≡_}
 use mathlib.Core.Bool.{not}
-use mathlib.Core.List.{List}
-use mathlib.Core.Logic.{_≢_}
+use mathlib.Core.List.{List, [], _∷_}
 use Prim.Native.Nat.{ℕ, _≤_}
 use lib.Dec.{eqb}
 use lib.ListN.{length}
-use Rattle.sheet.specs.Number.{numberOf, refuseIf}
+use Rattle.sheet.specs.declared.Refusal.the-variants.{NothingNear, FrameLength, PadBit, LeadBits}
+use Rattle.sheet.specs.declared.Outcome.{Outcome}
+use Rattle.sheet.specs.declared.Outcome.the-variants.{Refused}
+use Rattle.sheet.specs.Verdict.{Check, _⇒_, Promise, Always}
 use Rattle.bits.specs.Differences.{distance}
 use Rattle.codes.specs.Sums.{CodeWord}
 use Rattle.decode.specs.Decode.{Far}
 use Rattle.layout.specs.declared.message.Reading.{Reading}
-use Rattle.layout.specs.Frame.{sentBit, wordOf, leadRefusal, Carries}
+use Rattle.layout.specs.Frame.{sentBit, wordOf, leadIsWrong, Carries}
 use Rattle.frame.specs.declared.reading.ReadFrame.{ReadFrame}
-use Rattle.frame.specs.declared.reading.ReadFrame.the-variants.{Read, Refused}
 
 -- the checks before 6
-unfoldable pub frameRefusal : List ℕ → ℕ
-frameRefusal frame = refuseIf (not (eqb (length frame) 32)) 9 (refuseIf (not (eqb (sentBit frame 255) 0)) 10 0)
+abbrev pub frameChecks : List ℕ → List Check
+frameChecks frame =
+    not (eqb (length frame) 32) ⇒ FrameLength
+    ∷ not (eqb (sentBit frame 255) 0) ⇒ PadBit
+    ∷ []
 
--- the number and the values of an answer: a refusal gives zeros beside its number
-abbrev pub readNumber : ReadFrame → ℕ
-readNumber (Read reading wrong) = 0
-readNumber (Refused r) = numberOf r
+-- the check after mending
+abbrev pub leadChecks : List ℕ → List Check
+leadChecks word = leadIsWrong word ⇒ LeadBits ∷ []
 
-abbrev pub readReading : ReadFrame → Reading
-readReading (Read reading wrong) = reading
-readReading (Refused r) = record { house = 0; poll = 0; counter = 0 }
+-- what is given beside the outcome
+pub record Given : Type 0 where
+  pub reading : Reading
+  pub wrong : ℕ
 
-abbrev pub readWrong : ReadFrame → ℕ
-readWrong (Read reading wrong) = wrong
-readWrong (Refused r) = 0
+abbrev pub givenBy : ReadFrame → Given
+givenBy answer = record { reading = answer .reading; wrong = answer .wrong }
+
+-- a refusal gives zeros
+abbrev pub zeros : Given
+zeros = record { reading = record { house = 0; poll = 0; counter = 0 }; wrong = 0 }
+
+-- the reading that a word carries, and the number of wrong places that it had
+pub record ReadFrom (word : List ℕ) (wrong : ℕ) (given : Given) : Type 0 where
+  pub reading : Carries (given .reading) word
+  pub count : given .wrong ≡ wrong
 
 -- what a mended word says that had so many wrong places
-pub record ReadsWord (word : List ℕ) (count : ℕ) (answer : ReadFrame) : Type 0 where
-  pub number : readNumber answer ≡ leadRefusal word
-  pub reading : leadRefusal word ≡ 0 → Carries (readReading answer) word
-  pub wrong : leadRefusal word ≡ 0 → readWrong answer ≡ count
+abbrev pub ReadsWord : List ℕ → ℕ → Outcome → Given → Type 0
+ReadsWord word wrong = Promise (leadChecks word) (Always (ReadFrom word wrong)) zeros
 
--- the answer is what a code word within 23 says
-pub record ReadsNear (received : List ℕ) (answer : ReadFrame) : Type 0 where
-  pub word : List ℕ
-  pub code-word : CodeWord 8 23 word
-  pub within : distance received word ≤ 23
-  pub says : ReadsWord word (distance received word) answer
+-- past the checks: the answer is what a code word within 23 says; or 6, and no code word is within 23
+pub data ReadsReceived (received : List ℕ) (answer : Outcome) (given : Given) : Type 0 where
+  near : (word : List ℕ) → CodeWord 8 23 word → distance received word ≤ 23 → ReadsWord word (distance received word) answer given
+      → ReadsReceived received answer given
+  far : answer ≡ Refused NothingNear → Far 8 23 23 received → given ≡ zeros → ReadsReceived received answer given
 
--- what is found once the checks have passed: 6 exactly if no code word is within 23
-pub record Finds (received : List ℕ) (answer : ReadFrame) : Type 0 where
-  pub near : readNumber answer ≢ 6 → ReadsNear received answer
-  pub far : readNumber answer ≡ 6 → Far 8 23 received
-
-pub record Reads (frame : List ℕ) (answer : ReadFrame) : Type 0 where
-  pub checked : frameRefusal frame ≢ 0 → readNumber answer ≡ frameRefusal frame
-  pub found : frameRefusal frame ≡ 0 → Finds (wordOf frame) answer
+abbrev pub Reads : List ℕ → ReadFrame → Type 0
+Reads frame answer = Promise (frameChecks frame) (ReadsReceived (wordOf frame)) zeros (answer .outcome) (givenBy answer)

@@ -3,7 +3,6 @@
 mod making;
 mod reading;
 
-pub use making::Making;
 pub use making::make;
 pub use reading::ReadFrame;
 pub use reading::read;

@@ -4,21 +4,17 @@ ghost use mathlib.Core.Path.{_≡_};
 ghost use lib.ListN.{length};
 ghost use Rattle.frame.specs.Make.{Made, Makes};
 use layout::Reading;
+use sheet::Outcome;
 use sheet::Refusal;
 
-pub enum Making {
-    Done,
-    Refused(Refusal),
-}
-
-pub fn make(reading: Reading, frame: &mut [u8]) -> Making
+pub fn make(reading: Reading, frame: &mut [u8]) -> Outcome
     ensures { λ r. ⌜ Makes reading (now (frame .entry)) r (now (frame .exit)) ⌝ }
 {
     if frame.len() != 32 {
-        return Making::Refused(Refusal::FrameLength);
+        return Outcome::Refused(Refusal::FrameLength);
     }
     fill_frame(reading, frame);
-    Making::Done
+    Outcome::Done
 }
 
 // Encode refuses nothing here: the code is listed and the lengths are its own.

@@ -2,45 +2,64 @@
 
 ghost use mathlib.Core.Path.{_≡_};
 ghost use lib.ListN.{length, replicate};
+ghost use Rattle.sheet.specs.declared.Outcome.the-variants.{Refused};
 ghost use Rattle.bits.specs.Bits.{AreBits};
 ghost use Rattle.layout.specs.Frame.{wordOf};
-ghost use Rattle.frame.specs.Read.{Reads, ReadsWord, Finds};
-use decode::Decoded;
+ghost use Rattle.frame.specs.Read.{Reads, ReadsWord, ReadsReceived, givenBy, zeros};
 use layout::Reading;
 use layout::Sent;
+use sheet::Outcome;
 use sheet::Refusal;
 
-pub enum ReadFrame {
-    Read { reading: Reading, wrong: usize },
-    Refused(Refusal),
+// A refusal has zeros beside it.
+pub struct ReadFrame {
+    pub outcome: Outcome,
+    pub reading: Reading,
+    pub wrong: usize,
 }
 
 pub fn read(frame: &[u8]) -> ReadFrame
     ensures { λ r. ⌜ Reads (now (frame .entry)) r ⌝ }
 {
     if frame.len() != 32 {
-        return ReadFrame::Refused(Refusal::FrameLength);
+        return refused(Refusal::FrameLength);
     }
     let pad = layout::sent_bit(frame, Sent { number: 255 });
     if pad != 0 {
-        return ReadFrame::Refused(Refusal::PadBit);
+        return refused(Refusal::PadBit);
     }
-    find(frame)
+    read_received(frame)
+}
+
+fn refused(r: Refusal) -> ReadFrame
+    ensures { λ a. ⌜ (a .outcome ≡ Refused r) × (givenBy a ≡ zeros) ⌝ }
+{
+    let reading = Reading {
+        house: 0,
+        poll: 0,
+        counter: 0,
+    };
+    ReadFrame {
+        outcome: Outcome::Refused(r),
+        reading,
+        wrong: 0,
+    }
 }
 
 // Past the checks: the code word near the frame's word, and what it says.
-fn find(frame: &[u8]) -> ReadFrame
+fn read_received(frame: &[u8]) -> ReadFrame
     requires { ⌜ length (now frame) ≡ 32 ⌝ }
-    ensures { λ r. ⌜ Finds (wordOf (now (frame .entry))) r ⌝ }
+    ensures { λ r. ⌜ ReadsReceived (wordOf (now (frame .entry))) (r .outcome) (givenBy r) ⌝ }
 {
     let mut received = layout::word_space();
     let mut word = layout::word_space();
     let mut list = list_space();
     layout::unpack(frame, &mut received);
     let answer = decode::decode(8, 23, &received, &mut word, &mut list);
-    match answer {
-        Decoded::Mended(wrong) => read_word(&word, wrong),
-        Decoded::Refused(r) => ReadFrame::Refused(r),
+    let outcome = answer.outcome;
+    match outcome {
+        Outcome::Done => read_word(&word, answer.wrong),
+        Outcome::Refused(r) => refused(r),
     }
 }
 
@@ -53,12 +72,16 @@ fn list_space() -> [u16; 23]
 // What a mended word says that had so many wrong places.
 fn read_word(word: &[u8], wrong: usize) -> ReadFrame
     requires { ⌜ AreBits (now word) × (length (now word) ≡ 255) ⌝ }
-    ensures { λ r. ⌜ ReadsWord (now (word .entry)) wrong r ⌝ }
+    ensures { λ r. ⌜ ReadsWord (now (word .entry)) wrong (r .outcome) (givenBy r) ⌝ }
 {
     let lead = layout::gather(word, Sent { number: 0 }, 3);
     if lead != 0 {
-        return ReadFrame::Refused(Refusal::LeadBits);
+        return refused(Refusal::LeadBits);
     }
     let reading = layout::reading_of(word);
-    ReadFrame::Read { reading, wrong }
+    ReadFrame {
+        outcome: Outcome::Done,
+        reading,
+        wrong,
+    }
 }

@@ -55,7 +55,8 @@ product-top zero e (x ∷ xs) ys D E =
 product-top (suc d) e (x ∷ xs) ys D E =
     rw (suc-add d e)
     (product-place x xs ys (suc (d + e))
-    ∙ ap₂ (λ y z. bitXor y (x * z)) (product-top d e xs ys (record { top = D .top; above = λ i u. D .above (suc i) (omega arith) }) E) (E .above (suc (d + e)) (omega arith))
+    ∙ ap₂ (λ y z. bitXor y (x * z)) (product-top d e xs ys (record { top = D .top; above = λ i u. D .above (suc i) (omega arith) }) E)
+    (E .above (suc (d + e)) (omega arith))
     ∙ ap (bitXor 1) (mul-zero x))
 
 pub product-degree : {d e : ℕ} {xs ys : List ℕ} → HasDegree d xs → HasDegree e ys → HasDegree (d + e) (productBits xs ys)

@@ -9,7 +9,7 @@ use lib.ListN.{length, getD}
 use Rattle.bits.specs.Bits.{AreBits, addedAt}
 use Rattle.bits.proofs.BitLaws.{bits-addedAt, addedAt-at, addedAt-after}
 use Rattle.field.specs.Sum.{_⊕_}
-use Rattle.field.specs.Product.{Listed, _⊗⟨_⟩_}
+use Rattle.field.specs.Product.{IsField, _⊗⟨_⟩_}
 use Rattle.field.specs.Power.{a, power}
 use Rattle.field.proofs.SumLaws.{sum-zero}
 use Rattle.field.proofs.ProductLaws.{product-zero}
@@ -44,9 +44,10 @@ pub record Down (d : ℕ) (g first word : List ℕ) (i : ℕ) : Type 0 where
   pub bits : AreBits word
   pub same : length word ≡ length first
   pub left : (h : ℕ) → i ≤ h → getD word h 0 ≡ 0
-  pub sums : {m : ℕ} → Listed m → (j : ℕ) → sumOf m j g ≡ 0 → sumOf m j word ≡ sumOf m j first
+  pub sums : {m : ℕ} → IsField m → (j : ℕ) → sumOf m j g ≡ 0 → sumOf m j word ≡ sumOf m j first
 
-pub down : {d i : ℕ} {g first word after : List ℕ} → Down d g first word (i + 1) → TakenAway d g i word after → length after ≡ length word → Down d g first after i
+pub down : {d i : ℕ} {g first word after : List ℕ} → Down d g first word (i + 1) → TakenAway d g i word after
+    → length after ≡ length word → Down d g first after i
 down {i = i} {after = after} s t l =
     record {
       bits = t .bits;

@@ -34,7 +34,8 @@ module _ (m : ℕ) where
           let C = rest q i (omega arith) v l (omega arith) in
           record { row = C .row; of-m = C .of-m; most = omega (arith, C .most); in-class = C .in-class }
       pick (no p) (yes d) before rest =
-          let z : (2 * before-t m r + 1) * 2 ^ 0 % nOf m ≡ i = ap (λ x. x % nOf m) (mul-one (2 * before-t m r + 1)) ∙ mod-eq-of-lt (omega (arith, row-facts w)) ∙ sym d in
+          let z : (2 * before-t m r + 1) * 2 ^ 0 % nOf m ≡ i =
+          ap (λ x. x % nOf m) (mul-one (2 * before-t m r + 1)) ∙ mod-eq-of-lt (omega (arith, row-facts w)) ∙ sym d in
           record { row = r; of-m = w; most = omega arith; in-class = (0, z) }
       pick (no p) (no d) before rest =
           let (j, e, x, y, z) = smaller-class w i (omega arith) h in

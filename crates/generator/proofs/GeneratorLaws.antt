@@ -8,7 +8,7 @@ use lib.ListN.{length, getD, take, List·getD-eq-default}
 use lib.Seq.{length-take-le, getD-take}
 use Rattle.bits.specs.Bits.{AreBits, productBits}
 use Rattle.bits.proofs.BitLaws.{bits-take, bits-ones, bits-product}
-use Rattle.field.specs.Product.{Listed, _⊗⟨_⟩_}
+use Rattle.field.specs.Product.{IsField, _⊗⟨_⟩_}
 use Rattle.field.specs.Power.{nOf}
 use Rattle.field.proofs.ProductLaws.{zero-product, product-zero}
 use Rattle.codes.specs.Table.{ks, ts, first, RowOf, before-k, before-t}
@@ -99,7 +99,7 @@ generated {m} {r} w =
     let before : Generated m (before-k m r) (before-t m r) (productOf (first m) (r - first m)) = rw i at (before-generated m (r - first m) (rw i w)) in
     rw (c, product-of-more (first m) (r - first m), i) (one-more w before)
 
-module _ {m : ℕ} (L : Listed m) {t d : ℕ} {rs : List ℕ} (R : Roots m t d rs) where
+module _ {m : ℕ} (L : IsField m) {t d : ℕ} {rs : List ℕ} (R : Roots m t d rs) where
   pub one-generator : (g h : List ℕ) → Generator m t d g → Generator m t d h → g ≡ h
   one-generator g h G H = same-words L R g h (G .bits) (H .bits) (G .long ∙ sym (H .long)) above (G .sums) (H .sums)
     where

@@ -30,7 +30,8 @@ module _ {m r : ℕ} (w : RowOf m r) where
   minimal-least : (q : List ℕ) → AreBits q → ((j : ℕ) → before-k m r - getD ks r 0 ≤ j → getD q j 0 ≡ 0) → sumOf m (2 * before-t m r + 1) q ≡ 0
       → (j : ℕ) → getD q j 0 ≡ 0
   minimal-least q b z h =
-      zero-by-roots (w .listed) (before-k m r - getD ks r 0) (roots .list) (roots .long) (members-distinct roots) (roots .below) q b z (λ i l. class-sum q b h (getD (roots .list) i 0) (roots .have i l))
+      zero-by-roots (w .listed) (before-k m r - getD ks r 0) (roots .list) (roots .long) (members-distinct roots) (roots .below) q b z
+      (λ i l. class-sum q b h (getD (roots .list) i 0) (roots .have i l))
 
   pub minimal : Minimal m (2 * before-t m r + 1) (before-k m r - getD ks r 0) (minimalOf r)
   minimal =
@@ -53,7 +54,8 @@ module _ {m r : ℕ} (w : RowOf m r) where
   -- but of no other power: it would have more roots than its degree
   pub no-other-root : (x : ℕ) → x < nOf m → (InClass (nOf m) (2 * before-t m r + 1) x → ⊥) → sumOf m x (minimalOf r) ≢ 0
   no-other-root x l out h =
-      let zero-top = zero-by-roots (w .listed) (suc d) (x ∷ roots .list) (ap suc (roots .long)) differ below (minimalOf r) (minimal .bits) (minimal .above) vanish d in
+      let zero-top = zero-by-roots (w .listed) (suc d) (x ∷ roots .list) (ap suc (roots .long)) differ below (minimalOf r)
+      (minimal .bits) (minimal .above) vanish d in
       omega (arith, minimal .top)
     where
       d : ℕ

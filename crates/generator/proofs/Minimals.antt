@@ -12,7 +12,7 @@ use lib.Seq.{getD-drop}
 use Rattle.bits.specs.Bits.{AreBits}
 use Rattle.bits.proofs.BitLaws.{bits-cons}
 use Rattle.field.specs.Sum.{_⊕_}
-use Rattle.field.specs.Product.{Listed, polynomials, polynomial, digits, horner, shifted, _⊗⟨_⟩_}
+use Rattle.field.specs.Product.{IsField, polynomials, polynomial, digits, horner, shifted, _⊗⟨_⟩_}
 use Rattle.field.specs.Power.{a, nOf, power}
 use Rattle.field.proofs.Horner.{horner-zero, horner-digits}
 use Rattle.field.proofs.ProductLaws.{product-horner, remainder-below}
@@ -55,7 +55,7 @@ abbrev walkOf : ℕ → Bool
 walkOf m = walk m (first (suc m) - first m) (nOf m) 0 2 (drop (first m) ks) (drop (first m) ts) (drop (first m) minimals)
 
 -- the one test of the whole table
-walked : {m : ℕ} → Listed m → T (walkOf m)
+walked : {m : ℕ} → IsField m → T (walkOf m)
 unfolding ks ts minimals firsts first polynomials polynomial digits horner shifted _⊕_
 walked = at-listed walkOf tt
 
@@ -67,7 +67,7 @@ record RightMinimal (m kb s k t p : ℕ) : Type 0 where
   odd : p % 2 ≡ 1
   root : value m (power m a (2 * s + 1)) p ≡ 0
 
-module _ {m : ℕ} (L : Listed m) where
+module _ {m : ℕ} (L : IsField m) where
   shifts-power : (c i : ℕ) → shifts m c (power m a i) ≡ power m a (c + i)
   shifts-power zero i = ap (power m a) (omega arith)
   shifts-power (suc c) i =
@@ -89,7 +89,8 @@ module _ {m : ℕ} (L : Listed m) where
       let e : 2 * (t - s) + (2 * s + 1) ≡ 2 * t + 1 = omega arith in
       shifts-power (2 * (t - s)) (2 * s + 1) ∙ ap (power m a) e
 
-  walk-head : (left kb s k t p : ℕ) (kl tl pl : List ℕ) → T (walk m (suc left) kb s (power m a (2 * s + 1)) (k ∷ kl) (t ∷ tl) (p ∷ pl)) → RightMinimal m kb s k t p
+  walk-head : (left kb s k t p : ℕ) (kl tl pl : List ℕ)
+      → T (walk m (suc left) kb s (power m a (2 * s + 1)) (k ∷ kl) (t ∷ tl) (p ∷ pl)) → RightMinimal m kb s k t p
   walk-head left kb s k t p kl tl pl w =
       let z : ℕ = power m a (2 * s + 1) in
       right-minimal kb s k t p

@@ -7,9 +7,10 @@ use native.Mathlib.Decide.{ℕ-discrete}
 use native.Mathlib.Omega.{arith}
 use lib.ListN.{length, getD, replicate, length-map, length-replicate, List·getD-eq-default}
 use Rattle.bits.specs.Bits.{AreBits, added, productBits}
-use Rattle.bits.proofs.BitLaws.{times-at, bit-cases, bits-head, bits-tail, bits-nil, bits-cons, bits-replicate, bits-added, bits-times, bits-product, length-added, product-nil, product-cons, length-product, zeros-at}
+use Rattle.bits.proofs.BitLaws.{times-at, bit-cases, bits-head, bits-tail, bits-nil, bits-cons, bits-replicate, bits-added}
+use Rattle.bits.proofs.BitLaws.{bits-times, bits-product, length-added, product-nil, product-cons, length-product, zeros-at}
 use Rattle.field.specs.Sum.{_⊕_}
-use Rattle.field.specs.Product.{Listed, _⊗⟨_⟩_}
+use Rattle.field.specs.Product.{IsField, _⊗⟨_⟩_}
 use Rattle.field.specs.Power.{a, power}
 use Rattle.field.proofs.SumLaws.{sum, sum-self, sum-zero, zero-sum}
 use Rattle.field.proofs.ProductLaws.{product, product-zero, zero-product, one-product}
@@ -19,7 +20,7 @@ use Rattle.codes.proofs.Unique.{Roots, only-zero}
 use Rattle.generator.specs.Generator.{Generator}
 use Rattle.generator.proofs.ProductPlaces.{product-place}
 
-module _ {m : ℕ} (L : Listed m) where
+module _ {m : ℕ} (L : IsField m) where
   sum-times : (j x : ℕ) (ys : List ℕ) → x ≤ 1 → AreBits ys → sumOf m j (map (λ y. x * y) ys) ≡ x ⊗⟨ m ⟩ sumOf m j ys
   sum-times j x ys h b =
       bit-cases (λ x. sumOf m j (map (λ y. x * y) ys) ≡ x ⊗⟨ m ⟩ sumOf m j ys)
@@ -120,7 +121,7 @@ module _ (d : ℕ) (g : List ℕ) (long : length g ≡ d + 1) (bits : AreBits g)
   divided (x ∷ c) b = divided-cons x c (bits-head b) (divided c (bits-tail b))
 
 -- every word with the sums of a code word is a multiple of the generator
-pub multiple : {m : ℕ} (L : Listed m) {t d : ℕ} {rs : List ℕ} → Roots m t d rs → {g : List ℕ} → Generator m t d g → (c : List ℕ) → AreBits c
+pub multiple : {m : ℕ} (L : IsField m) {t d : ℕ} {rs : List ℕ} → Roots m t d rs → {g : List ℕ} → Generator m t d g → (c : List ℕ) → AreBits c
     → ((j : ℕ) → 1 ≤ j → j ≤ 2 * t → sumOf m j c ≡ 0) → (q : List ℕ) × AreBits q × ((i : ℕ) → getD c i 0 ≡ getD (productBits q g) i 0)
 multiple {m} L {t} {d} R {g} G c b h = (D .q, D .q-bits, λ i. D .whole i ∙ ap (λ z. getD (productBits (D .q) g) i 0 ⊕ z) (left i) ∙ sum-zero _)
   where

@@ -40,12 +40,17 @@ product-suc r c = refl
 
 pub cut-start : (from n : ℕ) (g : List ℕ) → Cut (replicate 1 1) n g → Cut (productOf from (from - from)) n g
 cut-start from n g s =
-    record { bits = s .bits; same = s .same; holds = λ i h. s .holds i h ∙ ap (λ (l : List ℕ). getD l i 0) (sym (product-zero from) ∙ ap (productOf from) none) }
+    record {
+      bits = s .bits;
+      same = s .same;
+      holds = λ i h. s .holds i h ∙ ap (λ (l : List ℕ). getD l i 0) (sym (product-zero from) ∙ ap (productOf from) none);
+    }
   where
     none : 0 ≡ from - from
     none = omega arith
 
-pub cut-next : {from r n : ℕ} {table g after : List ℕ} → table ≡ minimals → from ≤ r → Cut (productOf from (r - from)) n g → Multiplied (getD table r 0) g after → length after ≡ length g
+pub cut-next : {from r n : ℕ} {table g after : List ℕ} → table ≡ minimals → from ≤ r → Cut (productOf from (r - from)) n g
+    → Multiplied (getD table r 0) g after → length after ≡ length g
     → Cut (productOf from (r + 1 - from)) n after
 cut-next {from} {r} {n} {table} {g} {after} e h s t l = record { bits = t .bits; same = l ∙ s .same; holds = more }
   where
@@ -66,7 +71,8 @@ cut-next {from} {r} {n} {table} {g} {after} e h s t l = record { bits = t .bits;
 -- what reaches no further than the buffer stands there whole
 pub cut-whole : {p buffer : List ℕ} {n : ℕ} → Cut p n buffer → n ≤ length p → buffer ≡ take n p
 cut-whole {p} {buffer} {n} s h =
-    ext-getD 0 buffer (take n p) (s .same ∙ sym (length-take-le n p h)) (λ i k. s .holds i (omega (arith, s .same)) ∙ sym (getD-take n p i 0 (omega (arith, s .same))))
+    ext-getD 0 buffer (take n p) (s .same ∙ sym (length-take-le n p h))
+    (λ i k. s .holds i (omega (arith, s .same)) ∙ sym (getD-take n p i 0 (omega (arith, s .same))))
 
 pub minimals-long : length minimals ≡ 232
 unfolding minimals

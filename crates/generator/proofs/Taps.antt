@@ -30,11 +30,21 @@ delayed-at e old i h =
 module _ {g old : List ℕ} (p e : ℕ) (G : AreBits g) (O : AreBits old) (same : length old ≡ length g) where
   pub tap-skipped : p / 2 ^ e % 2 ≡ 0 → Tapped p e old g g
   tap-skipped z =
-      record { bits = G; holds = λ i h. sym (ap (λ (d : ℕ). getD g i 0 ⊕ d * getD (replicate e 0 ++ old) i 0) z ∙ ap (λ (x : ℕ). getD g i 0 ⊕ x) (zero-mul (getD (replicate e 0 ++ old) i 0)) ∙ sum-zero (getD g i 0)) }
+      record {
+        bits = G;
+        holds = λ i h. sym
+            (ap (λ (d : ℕ). getD g i 0 ⊕ d * getD (replicate e 0 ++ old) i 0) z
+            ∙ ap (λ (x : ℕ). getD g i 0 ⊕ x) (zero-mul (getD (replicate e 0 ++ old) i 0)) ∙ sum-zero (getD g i 0));
+      }
 
   pub tap-past : length g ≤ e → Tapped p e old g g
   tap-past l =
-      record { bits = G; holds = λ i h. sym (ap (λ (x : ℕ). getD g i 0 ⊕ p / 2 ^ e % 2 * x) (delayed-before e old i (omega arith)) ∙ ap (λ (x : ℕ). getD g i 0 ⊕ x) (mul-zero (p / 2 ^ e % 2)) ∙ sum-zero (getD g i 0)) }
+      record {
+        bits = G;
+        holds = λ i h. sym
+            (ap (λ (x : ℕ). getD g i 0 ⊕ p / 2 ^ e % 2 * x) (delayed-before e old i (omega arith))
+            ∙ ap (λ (x : ℕ). getD g i 0 ⊕ x) (mul-zero (p / 2 ^ e % 2)) ∙ sum-zero (getD g i 0));
+      }
 
   pub tap-added : p / 2 ^ e % 2 ≡ 1 → e < length g → Tapped p e old g (addedAt g e (take (length g - e) old))
   tap-added one l = record { bits = bits-addedAt e G (bits-take (length g - e) O); holds = λ i h. at i h (decLt i e) }
@@ -42,13 +52,17 @@ module _ {g old : List ℕ} (p e : ℕ) (G : AreBits g) (O : AreBits old) (same 
       digit : (i : ℕ) → getD g i 0 ⊕ getD (replicate e 0 ++ old) i 0 ≡ getD g i 0 ⊕ p / 2 ^ e % 2 * getD (replicate e 0 ++ old) i 0
       digit i = ap (λ (x : ℕ). getD g i 0 ⊕ x) (sym (ap (λ (d : ℕ). d * getD (replicate e 0 ++ old) i 0) one ∙ one-mul (getD (replicate e 0 ++ old) i 0)))
 
-      at : (i : ℕ) → i < length g → Dec (i < e) → getD (addedAt g e (take (length g - e) old)) i 0 ≡ getD g i 0 ⊕ p / 2 ^ e % 2 * getD (replicate e 0 ++ old) i 0
-      at i h (yes b) = addedAt-before g e (take (length g - e) old) i b ∙ sym (sum-zero (getD g i 0)) ∙ ap (λ (x : ℕ). getD g i 0 ⊕ x) (sym (delayed-before e old i b)) ∙ digit i
+      at : (i : ℕ) → i < length g → Dec (i < e)
+          → getD (addedAt g e (take (length g - e) old)) i 0 ≡ getD g i 0 ⊕ p / 2 ^ e % 2 * getD (replicate e 0 ++ old) i 0
+      at i h (yes b) =
+          addedAt-before g e (take (length g - e) old) i b ∙ sym (sum-zero (getD g i 0))
+          ∙ ap (λ (x : ℕ). getD g i 0 ⊕ x) (sym (delayed-before e old i b)) ∙ digit i
       at i h (no n) =
           addedAt-sum i h (omega arith)
           ∙ ap (λ (x : ℕ). getD g i 0 ⊕ x) (getD-take (length g - e) old (i - e) 0 (omega arith) ∙ sym (delayed-at e old i (omega arith))) ∙ digit i
         where
-          addedAt-sum : (i : ℕ) → i < length g → e ≤ i → getD (addedAt g e (take (length g - e) old)) i 0 ≡ getD g i 0 ⊕ getD (take (length g - e) old) (i - e) 0
+          addedAt-sum : (i : ℕ) → i < length g → e ≤ i
+              → getD (addedAt g e (take (length g - e) old)) i 0 ≡ getD g i 0 ⊕ getD (take (length g - e) old) (i - e) 0
           addedAt-sum i h k = sum-place g e (take (length g - e) old) i k h
 
 -- the digits below e are worked in
@@ -64,7 +78,9 @@ taps-start p old g z =
       bits = rw z (bits-replicate (length old));
       same = ap length z ∙ length-replicate {A = ℕ} (length old) 0;
       within = omega arith;
-      holds = λ i h. ap (λ (l : List ℕ). getD l i 0) z ∙ zeros-at (length old) i ∙ sym (ap (λ (l : List ℕ). getD (productBits l old) i 0) (binary-zero p) ∙ product-none old i);
+      holds =
+          λ i h. ap (λ (l : List ℕ). getD l i 0) z ∙ zeros-at (length old) i
+          ∙ sym (ap (λ (l : List ℕ). getD (productBits l old) i 0) (binary-zero p) ∙ product-none old i);
     }
 
 pub taps-next : {p e : ℕ} {old g after : List ℕ} → Taps p old g e → e < 11 → Tapped p e old g after → length after ≡ length g → Taps p old after (e + 1)
@@ -75,7 +91,9 @@ taps-next {p} {e} {old} {g} {after} s h t l =
     more i k =
         t .holds i (omega (arith, s .same))
         ∙ ap₂ (λ (x y : ℕ). x ⊕ p / 2 ^ e % 2 * getD (replicate y 0 ++ old) i 0) (s .holds i k) (sym (length-binary e p))
-        ∙ sym (ap (λ (l : List ℕ). getD (productBits l old) i 0) (ap (λ (n : ℕ). binary n p) (add-one e) ∙ binary-more e p) ∙ product-snoc (binary e p) (p / 2 ^ e % 2) old i)
+        ∙ sym
+        (ap (λ (l : List ℕ). getD (productBits l old) i 0) (ap (λ (n : ℕ). binary n p) (add-one e) ∙ binary-more e p)
+        ∙ product-snoc (binary e p) (p / 2 ^ e % 2) old i)
 
 pub taps-done : {p e : ℕ} {old g : List ℕ} → Taps p old g e → 11 ≤ e → Multiplied p old g
 taps-done {p} {e} {old} {g} s h =

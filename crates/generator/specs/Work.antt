@@ -5,7 +5,7 @@ use Prim.Native.Nat.{ℕ, _*_, _/_, _%_, _^_, _≤_, _<_}
 use lib.ListN.{length, getD, replicate}
 use Rattle.bits.specs.Bits.{AreBits, productBits}
 use Rattle.field.specs.Sum.{_⊕_}
-use Rattle.field.specs.Product.{Listed}
+use Rattle.field.specs.Product.{IsField}
 use Rattle.codes.specs.Sums.{sumOf}
 use Rattle.generator.specs.Generator.{binary}
 
@@ -30,10 +30,10 @@ pub record TakenAway (d : ℕ) (g : List ℕ) (i : ℕ) (before after : List ℕ
   pub bits : AreBits after
   pub here : getD after i 0 ≡ 0
   pub above : (h : ℕ) → i < h → getD after h 0 ≡ getD before h 0
-  pub sums : {m : ℕ} → Listed m → (j : ℕ) → sumOf m j g ≡ 0 → sumOf m j after ≡ sumOf m j before
+  pub sums : {m : ℕ} → IsField m → (j : ℕ) → sumOf m j g ≡ 0 → sumOf m j after ≡ sumOf m j before
 
 -- the same until nothing is left from place d on
 pub record Reduced (d : ℕ) (g before after : List ℕ) : Type 0 where
   pub bits : AreBits after
   pub left : (i : ℕ) → d ≤ i → getD after i 0 ≡ 0
-  pub sums : {m : ℕ} → Listed m → (j : ℕ) → sumOf m j g ≡ 0 → sumOf m j after ≡ sumOf m j before
+  pub sums : {m : ℕ} → IsField m → (j : ℕ) → sumOf m j g ≡ 0 → sumOf m j after ≡ sumOf m j before

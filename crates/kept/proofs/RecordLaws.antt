@@ -9,19 +9,20 @@ use native.Mathlib.Omega.{arith}
 use borrow.Author.Tests.{le-leb, lt-leb}
 use lib.ListN.{length, getD, take, drop, drop-of-length-le, length-take, List·getD-eq-default}
 use lib.Pow.{pow-pos}
-use lib.Seq.{drop-cons, getD-take}
-use Rattle.bits.specs.Bits.{hasBadBit}
-use Rattle.bits.proofs.BitLaws.{not-bad, bits-of-not-bad}
-use Rattle.field.specs.Product.{Listed}
-use Rattle.field.specs.Power.{nOf}
+use lib.Seq.{drop-cons, getD-take, length-take-le}
+use Rattle.bits.specs.Bits.{hasBadBit, firstAbove}
+use Rattle.bits.proofs.BitLaws.{not-bad, bits-of-not-bad, bad-bit, no-bad-bit}
 use Rattle.field.proofs.Range.{sizes}
+use Rattle.codes.specs.declared.Code.{Code}
+use Rattle.codes.specs.Look.{Known}
 use Rattle.kept.specs.declared.Kept.{Kept}
 use Rattle.kept.specs.Record.{someAtLeast, badRecord}
 use Rattle.kept.specs.Work.{Sound}
 
 -- two records with the same parts
-pub kept-same : {k k′ : Kept} → k .m ≡ k′ .m → k .t ≡ k′ .t → k .bits ≡ k′ .bits → k .sums ≡ k′ .sums → k ≡ k′
-kept-same {k} {k′} a b c d = ap₂ (λ (x y : ℕ). of x y (k .bits) (k .sums)) a b ∙ ap₂ (λ (x y : List ℕ). of (k′ .m) (k′ .t) x y) c d
+pub kept-same : {stored other : Kept} → stored .m ≡ other .m → stored .t ≡ other .t → stored .bits ≡ other .bits → stored .sums ≡ other .sums → stored ≡ other
+kept-same {stored} {other} a b c d =
+    ap₂ (λ (x y : ℕ). of x y (stored .bits) (stored .sums)) a b ∙ ap₂ (λ (x y : List ℕ). of (other .m) (other .t) x y) c d
   where
     of : ℕ → ℕ → List ℕ → List ℕ → Kept
     of m t bits sums = record { m = m; t = t; bits = bits; sums = sums }
@@ -47,7 +48,8 @@ pub looking-start : (bound : ℕ) (xs : List ℕ) → Looking bound xs 0
 looking-start bound xs = record { within = omega arith; left = refl }
 
 pub looking-next : {bound i : ℕ} {xs : List ℕ} → Looking bound xs i → i < length xs → getD xs i 0 < bound → Looking bound xs (i + 1)
-looking-next {bound} {i} {xs} l h k = record { within = omega arith; left = l .left ∙ rw (drop-cons xs i 0 h, first-low (drop (suc i) xs) k, add-one i) refl }
+looking-next {bound} {i} {xs} l h k =
+    record { within = omega arith; left = l .left ∙ rw (drop-cons xs i 0 h, first-low (drop (suc i) xs) k, add-one i) refl }
 
 pub looking-high : {bound i : ℕ} {xs : List ℕ} → Looking bound xs i → i < length xs → bound ≤ getD xs i 0 → true ≡ someAtLeast bound xs
 looking-high {bound} {i} {xs} l h k = sym (l .left ∙ rw (drop-cons xs i 0 h) (first-high (drop (suc i) xs) k))
@@ -68,38 +70,35 @@ none-high : {bound : ℕ} (xs : List ℕ) → ((i : ℕ) → getD xs i 0 < bound
 none-high {bound} [] h = none-at-least bound
 none-high (x ∷ xs) h = first-low xs (h 0) ∙ none-high xs (λ i. h (suc i))
 
--- the two halves of check 7, n being that of the record's m
-module _ (k : Kept) {n : ℕ} (is-n : n ≡ nOf (k .m)) {bad : Bool} (is-bad : bad ≡ hasBadBit (take n (k .bits))) where
-  same-bad : bad ≡ hasBadBit (take (nOf (k .m)) (k .bits))
-  same-bad = is-bad ∙ ap (λ (x : ℕ). hasBadBit (take x (k .bits))) is-n
+-- the two halves of check 7, as they are looked at
+module _ {c : Code} (stored : Kept) (K : Known c) {bad : ℕ} (e : bad ≡ firstAbove (take (c .n) (stored .bits))) where
+  pub bad-bits : length (stored .bits) ≡ 1023 → bad < c .n → true ≡ badRecord c stored
+  bad-bits room h =
+      let long = length-take-le (c .n) (stored .bits) (omega (arith, room, K .small)) in
+      rw (bad-bit (take (c .n) (stored .bits)) e (omega (arith, long)))
 
-  pub bad-bits : bad ≡ true → true ≡ badRecord k
-  bad-bits e = sym (ap (λ (b : Bool). b || someAtLeast (2 ^ k .m) (take (k .t) (k .sums))) (sym same-bad ∙ e))
+  pub bad-sums : c .n ≤ bad → {r : Bool} → r ≡ someAtLeast (c .n + 1) (take (c .t) (stored .sums)) → r ≡ badRecord c stored
+  bad-sums h f =
+      let s = sizes (K .of-m .listed) in
+      let bound : c .n + 1 ≡ 2 ^ c .m = omega (arith, K .is-n) in
+      rw (no-bad-bit (take (c .n) (stored .bits)) e (omega (arith, length-take (c .n) (stored .bits))), ← bound) f
 
-  pub bad-sums : Listed (k .m) → bad ≡ false → {r : Bool} → r ≡ someAtLeast (n + 1) (take (k .t) (k .sums)) → r ≡ badRecord k
-  bad-sums L e f =
-      let s = sizes L in
-      let bound : n + 1 ≡ 2 ^ k .m = omega arith in
-      f
-      ∙ ap (λ (x : ℕ). someAtLeast x (take (k .t) (k .sums))) bound
-      ∙ sym (ap (λ (b : Bool). b || someAtLeast (2 ^ k .m) (take (k .t) (k .sums))) (sym same-bad ∙ e))
-
-pub sound : (k : Kept) → badRecord k ≡ false → Sound k
-sound k e =
-    let (b, s) = neither (hasBadBit (take (nOf (k .m)) (k .bits))) (someAtLeast (2 ^ k .m) (take (k .t) (k .sums))) e in
+pub sound : (c : Code) (stored : Kept) → badRecord c stored ≡ false → Sound c stored
+sound c stored e =
+    let (b, s) = neither (hasBadBit (take (c .n) (stored .bits))) (someAtLeast (2 ^ c .m) (take (c .t) (stored .sums))) e in
     record {
-      bits = bits-of-not-bad (take (nOf (k .m)) (k .bits)) b;
-      sums = λ i h. rw (← getD-take (k .t) (k .sums) i 0 h) (all-below (take (k .t) (k .sums)) (pow-pos (k .m)) s i);
+      bits = bits-of-not-bad (take (c .n) (stored .bits)) b;
+      sums = λ i h. rw (← getD-take (c .t) (stored .sums) i 0 h) (all-below (take (c .t) (stored .sums)) (pow-pos (c .m)) s i);
     }
   where
     neither : (a b : Bool) → a || b ≡ false → (a ≡ false) × (b ≡ false)
     neither true b e = absurd (true≢false e)
     neither false b e = (refl, e)
 
-pub sound-passes : (k : Kept) → Sound k → badRecord k ≡ false
-sound-passes k s =
-    ap (λ (b : Bool). b || someAtLeast (2 ^ k .m) (take (k .t) (k .sums))) (not-bad (s .bits)) ∙ none-high (take (k .t) (k .sums)) (λ i. pick i (decLt i (k .t)))
+pub sound-passes : (c : Code) (stored : Kept) → Sound c stored → badRecord c stored ≡ false
+sound-passes c stored s = rw (not-bad (s .bits)) (none-high (take (c .t) (stored .sums)) (λ i. pick i (decLt i (c .t))))
   where
-    pick : (i : ℕ) → Dec (i < k .t) → getD (take (k .t) (k .sums)) i 0 < 2 ^ k .m
-    pick i (yes h) = rw (getD-take (k .t) (k .sums) i 0 h) (s .sums i h)
-    pick i (no n) = rw (List·getD-eq-default (take (k .t) (k .sums)) 0 {n = i} (omega (arith, length-take (k .t) (k .sums)))) (pow-pos (k .m))
+    pick : (i : ℕ) → Dec (i < c .t) → getD (take (c .t) (stored .sums)) i 0 < 2 ^ c .m
+    pick i (yes h) = rw (getD-take (c .t) (stored .sums) i 0 h) (s .sums i h)
+    pick i (no n) =
+        rw (List·getD-eq-default (take (c .t) (stored .sums)) 0 {n = i} (omega (arith, length-take (c .t) (stored .sums)))) (pow-pos (c .m))

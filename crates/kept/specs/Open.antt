@@ -1,34 +1,34 @@
--- Open: "m, t, n bits. Gives a kept record by value: m, t, 1,023 bits, 255 sums (odd ones, in order), zeros past n and past t." Refusals 1, 2, 3, 5; a refused Open gives a record of zeros.
+-- Open: "m, t, n bits. Gives a kept record by value: m, t, 1,023 bits, 255 sums (odd ones, in order), zeros past n and past t." Refusals 1, 2, 3, 5;
+-- a refused Open gives a record of zeros.
 use mathlib.Core.Path.{_≡_}
 use mathlib.Core.Bool.{not}
-use mathlib.Core.List.{List, _++_}
-use mathlib.Core.Logic.{_≢_}
+use mathlib.Core.List.{List, [], _∷_, _++_}
 use Prim.Native.Nat.{ℕ, _-_}
 use lib.Dec.{eqb}
 use lib.ListN.{length, replicate}
-use Rattle.sheet.specs.Number.{refuseIf}
+use Rattle.sheet.specs.declared.Refusal.the-variants.{InputLength, BitAboveOne}
+use Rattle.sheet.specs.Verdict.{Check, _⇒_, Always}
 use Rattle.bits.specs.Bits.{hasBadBit}
-use Rattle.field.specs.Power.{nOf}
-use Rattle.codes.specs.Look.{codeRefusal}
+use Rattle.codes.specs.declared.Code.{Code}
+use Rattle.codes.specs.Look.{CodePromise}
 use Rattle.sums.specs.Rows.{OddSums}
 use Rattle.kept.specs.declared.Kept.{Kept}
 use Rattle.kept.specs.declared.Answer.{Answer}
-use Rattle.kept.specs.Record.{outcomeNumber, zeroKept}
+use Rattle.kept.specs.Record.{zeroKept}
 
-unfoldable pub openRefusal : ℕ → ℕ → List ℕ → ℕ
-openRefusal m t word =
-    codeRefusal m t
-    (refuseIf (not (eqb (length word) (nOf m))) 3
-    (refuseIf (hasBadBit word) 5 0))
+abbrev pub openChecks : List ℕ → Code → List Check
+openChecks word c =
+    not (eqb (length word) (c .n)) ⇒ InputLength
+    ∷ hasBadBit word ⇒ BitAboveOne
+    ∷ []
 
 -- the word, then zeros; its first t odd sums, then zeros
-pub record Opened (m t : ℕ) (word : List ℕ) (k : Kept) : Type 0 where
-  pub m-is : k .m ≡ m
-  pub t-is : k .t ≡ t
-  pub bits-are : k .bits ≡ word ++ replicate (1023 - nOf m) 0
-  pub sums-are : OddSums m t word (k .sums)
+pub record Opened (word : List ℕ) (c : Code) (stored : Kept) : Type 0 where
+  pub m-is : stored .m ≡ c .m
+  pub t-is : stored .t ≡ c .t
+  pub bits-are : stored .bits ≡ word ++ replicate (1023 - c .n) 0
+  pub sums-are : OddSums (c .m) (c .t) word (stored .sums)
 
-pub record Opens (m t : ℕ) (word : List ℕ) (a : Answer) : Type 0 where
-  pub number : outcomeNumber (a .outcome) ≡ openRefusal m t word
-  pub done : openRefusal m t word ≡ 0 → Opened m t word (a .record)
-  pub refused : openRefusal m t word ≢ 0 → a .record ≡ zeroKept
+-- refused, the record is the one of zeros
+abbrev pub Opens : ℕ → ℕ → List ℕ → Answer → Type 0
+Opens m t word a = CodePromise m t (openChecks word) (λ c. Always (Opened word c)) zeroKept (a .outcome) (a .record)

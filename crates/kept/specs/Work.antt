@@ -1,11 +1,20 @@
--- What check 7 leaves; no promise of an operation speaks of it.
+-- What the checks leave; no promise of an operation speaks of it.
+use mathlib.Core.Path.{_≡_}
+use mathlib.Core.List.{List}
 use Prim.Native.Nat.{ℕ, _^_, _<_}
-use lib.ListN.{getD, take}
+use lib.ListN.{length, getD, take}
 use Rattle.bits.specs.Bits.{AreBits}
-use Rattle.field.specs.Power.{nOf}
+use Rattle.codes.specs.declared.Code.{Code}
+use Rattle.codes.specs.Look.{Known}
 use Rattle.kept.specs.declared.Kept.{Kept}
 
--- bits and field elements
-pub record Sound (k : Kept) : Type 0 where
-  pub bits : AreBits (take (nOf (k .m)) (k .bits))
-  pub sums : (i : ℕ) → i < k .t → getD (k .sums) i 0 < 2 ^ k .m
+-- the checks of Open: a word of the code
+pub record OpenReady (c : Code) (word : List ℕ) : Type 0 where
+  pub known : Known c
+  pub long : length word ≡ c .n
+  pub bits : AreBits word
+
+-- check 7: bits and field elements
+pub record Sound (c : Code) (stored : Kept) : Type 0 where
+  pub bits : AreBits (take (c .n) (stored .bits))
+  pub sums : (i : ℕ) → i < c .t → getD (stored .sums) i 0 < 2 ^ c .m

@@ -1,10 +1,10 @@
 // Check 7 of a kept record.
 
 ghost use mathlib.Core.Path.{_≡_};
-ghost use Rattle.field.specs.Power.{nOf};
-ghost use Rattle.codes.specs.Look.{Accepted};
+ghost use Rattle.codes.specs.Look.{Known};
 ghost use Rattle.kept.specs.Record.{someAtLeast, badRecord};
 use crate::Kept;
+use codes::Code;
 
 // Whether one of the entries is the bound or more.
 fn some_at_least(bound: usize, entries: &[u16]) -> bool
@@ -21,17 +21,18 @@ fn some_at_least(bound: usize, entries: &[u16]) -> bool
     false
 }
 
-// Check 7, n being that of the record's m.
-pub fn is_bad(kept: Kept, n: usize) -> bool
-    requires { ⌜ Accepted (kept .m) (kept .t) × (n ≡ nOf (kept .m)) ⌝ }
-    ensures { λ r. ⌜ r ≡ badRecord kept ⌝ }
+// Check 7, the code being that of the record's m and t.
+pub fn is_bad(code: Code, stored: Kept) -> bool
+    requires { ⌜ Known code ⌝ }
+    ensures { λ r. ⌜ r ≡ badRecord code stored ⌝ }
 {
-    let bits = kept.bits;
-    let bad = bits::has_bad_bit(&bits[..n]);
-    if bad {
+    let n = code.n;
+    let bits = stored.bits;
+    let bad = bits::first_above_one(&bits[..n]);
+    if bad < n {
         return true;
     }
-    let sums = kept.sums;
-    let t = kept.t;
+    let t = code.t;
+    let sums = stored.sums;
     some_at_least(n + 1, &sums[..t])
 }

@@ -5,7 +5,7 @@ mod opening;
 
 pub use checking::is_bad;
 pub use opening::open;
-use sheet::Refusal;
+use sheet::Outcome;
 
 // A received word kept with the odd sums of it, place by place.
 #[repr(C)]
@@ -14,11 +14,6 @@ pub struct Kept {
     pub t: usize,
     pub bits: [u8; 1023],
     pub sums: [u16; 255],
-}
-
-pub enum Outcome {
-    Done,
-    Refused(Refusal),
 }
 
 pub struct Answer {

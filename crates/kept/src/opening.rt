@@ -4,53 +4,63 @@ ghost use mathlib.Core.Path.{_≡_};
 ghost use mathlib.Core.List.{_++_};
 ghost use Prim.Native.Nat.{_-_, _≤_};
 ghost use lib.ListN.{length, replicate};
-ghost use Rattle.bits.specs.Bits.{AreBits};
-ghost use Rattle.field.specs.Power.{nOf};
-ghost use Rattle.codes.specs.Look.{Accepted};
-ghost use Rattle.kept.specs.declared.Outcome.the-variants.{Refused};
-ghost use Rattle.kept.specs.Record.{zeroKept};
-ghost use Rattle.kept.specs.Open.{Opens, Opened};
+ghost use Rattle.codes.specs.Look.{Checked};
+ghost use Rattle.kept.specs.Open.{Opens, Opened, openChecks};
+ghost use Rattle.kept.specs.Work.{OpenReady};
 use crate::Answer;
 use crate::Kept;
-use crate::Outcome;
+use codes::Code;
 use codes::Look;
+use sheet::Outcome;
 use sheet::Refusal;
 
+// A refused Open gives the record of zeros.
 pub fn open(m: usize, t: usize, word: &[u8]) -> Answer
     ensures { λ r. ⌜ Opens m t (now (word .entry)) r ⌝ }
 {
-    let look = codes::look_up(m, t);
-    match look {
-        Look::Row { row: _, k: _ } => open_listed(m, t, word),
-        Look::Refused(r) => refused(r),
+    let checked = checks(m, t, word);
+    match checked {
+        Look::Passes(code) => Answer {
+            outcome: Outcome::Done,
+            record: opened(code, word),
+        },
+        Look::Refused(r) => Answer {
+            outcome: Outcome::Refused(r),
+            record: Kept {
+                m: 0,
+                t: 0,
+                bits: word_space(),
+                sums: sums::space(),
+            },
+        },
     }
 }
 
-// The same for a listed code.
-fn open_listed(m: usize, t: usize, word: &[u8]) -> Answer
-    requires { ⌜ Accepted m t ⌝ }
-    ensures { λ r. ⌜ Opens m t (now (word .entry)) r ⌝ }
+fn checks(m: usize, t: usize, word: &[u8]) -> Look
+    ensures { λ r. ⌜ Checked m t (openChecks (now (word .entry))) r ⌝ }
 {
-    let n = field::n_of(m);
-    if word.len() != n {
-        return refused(Refusal::InputLength);
+    let look = codes::look_up(m, t);
+    let Look::Passes(code) = look else {
+        return look;
+    };
+    if word.len() != code.n {
+        return Look::Refused(Refusal::InputLength);
     }
-    let bad = bits::has_bad_bit(word);
-    if bad {
-        return refused(Refusal::BitAboveOne);
+    let bad = bits::first_above_one(word);
+    if bad < word.len() {
+        return Look::Refused(Refusal::BitAboveOne);
     }
-    Answer {
-        outcome: Outcome::Done,
-        record: opened(m, t, word),
-    }
+    look
 }
 
 // Past the checks.
-fn opened(m: usize, t: usize, word: &[u8]) -> Kept
-    requires { ⌜ Accepted m t × (length (now word) ≡ nOf m) × AreBits (now word) ⌝ }
-    ensures { λ r. ⌜ Opened m t (now (word .entry)) r ⌝ }
+fn opened(code: Code, word: &[u8]) -> Kept
+    requires { ⌜ OpenReady code (now word) ⌝ }
+    ensures { λ r. ⌜ Opened (now (word .entry)) code r ⌝ }
 {
-    let sums = search::odd_sums(m, t, word);
+    let m = code.m;
+    let t = code.t;
+    let sums = locate::odd_sums(m, t, word);
     let bits = padded(word);
     Kept { m, t, bits, sums }
 }
@@ -70,20 +80,4 @@ fn word_space() -> [u8; 1023]
     ensures { λ r. ⌜ r ≡ replicate 1023 0 ⌝ }
 {
     [0; 1023]
-}
-
-// A refused Open gives the record of zeros.
-fn refused(r: Refusal) -> Answer
-    ensures { λ a. ⌜ (a .outcome ≡ Refused r) × (a .record ≡ zeroKept) ⌝ }
-{
-    let record = Kept {
-        m: 0,
-        t: 0,
-        bits: word_space(),
-        sums: sums::space(),
-    };
-    Answer {
-        outcome: Outcome::Refused(r),
-        record,
-    }
 }

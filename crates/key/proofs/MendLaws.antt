@@ -38,7 +38,8 @@ pub record Crossing (m r l : ℕ) (sigma all : List ℕ) (d i : ℕ) : Type 0 wh
 pub crossing-start : (m r l : ℕ) (sigma all : List ℕ) → Crossing m r l sigma all 0 0
 crossing-start m r l sigma all = record { within = omega arith; is = sym (crossed-zero m sigma all r) }
 
-pub crossing-next : {m r l i d s : ℕ} {sigma all : List ℕ} → Crossing m r l sigma all d i → i ≤ l → s ≡ getD sigma i 0 ⊗⟨ m ⟩ getD all (r - i) 0 → Crossing m r l sigma all (bitXor d s) (i + 1)
+pub crossing-next : {m r l i d s : ℕ} {sigma all : List ℕ} → Crossing m r l sigma all d i → i ≤ l
+    → s ≡ getD sigma i 0 ⊗⟨ m ⟩ getD all (r - i) 0 → Crossing m r l sigma all (bitXor d s) (i + 1)
 crossing-next {m} {r} {l} {i} {d} {s} {sigma} {all} w h f =
     record {
       within = omega arith;
@@ -68,7 +69,9 @@ pub record Mending (m factor gap count : ℕ) (b before after : List ℕ) (i : �
 
 unmoved : (m factor gap : ℕ) (b before : List ℕ) (i : ℕ) → i < gap → getD before i 0 ≡ getD before i 0 ⊕ factor ⊗⟨ m ⟩ getD (replicate gap 0 ++ b) i 0
 unmoved m factor gap b before i h =
-    sym (ap (λ z. getD before i 0 ⊕ factor ⊗⟨ m ⟩ z) (moved-before gap b i h) ∙ ap (λ z. getD before i 0 ⊕ z) (product-zero m factor) ∙ sum-zero (getD before i 0))
+    sym
+    (ap (λ z. getD before i 0 ⊕ factor ⊗⟨ m ⟩ z) (moved-before gap b i h) ∙ ap (λ z. getD before i 0 ⊕ z) (product-zero m factor)
+    ∙ sum-zero (getD before i 0))
 
 pub mending-start : (m factor gap count : ℕ) (b before : List ℕ) → Mending m factor gap count b before before gap
 mending-start m factor gap count b before =
@@ -81,10 +84,12 @@ mending-next {m} {factor} {gap} {count} {i} {s} {b} {before} {after} w h l e =
       from = omega (arith, w .from);
       stays = λ k. absurd (omega arith);
       filled = fill-next (w .filled) (omega arith)
-          (xor-sum (getD after i 0) s ∙ ap₂ (λ x y. x ⊕ y) (w .filled .rest i (omega arith)) (e ∙ ap (λ z. factor ⊗⟨ m ⟩ z) (sym (moved-at gap b i (w .from)))));
+          (xor-sum (getD after i 0) s
+          ∙ ap₂ (λ x y. x ⊕ y) (w .filled .rest i (omega arith)) (e ∙ ap (λ z. factor ⊗⟨ m ⟩ z) (sym (moved-at gap b i (w .from)))));
     }
 
-pub mending-done : {m factor gap count i : ℕ} {b before after : List ℕ} → Mending m factor gap count b before after i → count ≤ i → Filled (plusMoved m factor gap b before) count before after
+pub mending-done : {m factor gap count i : ℕ} {b before after : List ℕ} → Mending m factor gap count b before after i → count ≤ i
+    → Filled (plusMoved m factor gap b before) count before after
 mending-done {m} {factor} {gap} {count} {i} {b} {before} {after} w h =
     record { same = w .filled .same; holds = λ j k. w .filled .holds j (omega arith); rest = λ j k. past j k (decLt j i) }
   where

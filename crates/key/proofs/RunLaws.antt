@@ -20,7 +20,7 @@ use Rattle.algebra.proofs.Series.{product-at-zero, product-at-suc, one-zero, on
 use Rattle.algebra.proofs.Degree.{zero-from-weaken}
 use Rattle.algebra.proofs.Run.{run-zero, run-suc, step-is, run-degree, run-length}
 use Rattle.field.specs.Sum as Sum
-use Rattle.field.specs.Product.{Listed, _⊗⟨_⟩_}
+use Rattle.field.specs.Product.{IsField, _⊗⟨_⟩_}
 use Rattle.field.specs.Power.{inverse}
 use Rattle.field.proofs.ProductLaws.{product-zero, product-assoc, one-product}
 use Rattle.field.proofs.PowerLaws.{one-bound, inverse-bound}
@@ -95,11 +95,11 @@ module _ (K : Ring) where
       ∙ ap₂ (λ x y. x ⊕ y ⊗ q (r - (c + d))) (partial-past p q r c z d) (z (c + d) (omega arith))
       ∙ zero-shape (partial p q r c) (q (r - (c + d)))
 
-pub series-at : {m : ℕ} (L : Listed m) (xs : List ℕ) (i : ℕ) → getD xs i 0 < 2 ^ m → (seriesOf L xs i) .0 ≡ getD xs i 0
+pub series-at : {m : ℕ} (L : IsField m) (xs : List ℕ) (i : ℕ) → getD xs i 0 < 2 ^ m → (seriesOf L xs i) .0 ≡ getD xs i 0
 unfolding seriesOf
 series-at L xs i h = mod-eq-of-lt h
 
-module _ {m : ℕ} (L : Listed m) where
+module _ {m : ℕ} (L : IsField m) where
   abbrev F : Field
   F = field m L
 
@@ -112,7 +112,8 @@ module _ {m : ℕ} (L : Listed m) where
   crossed-number p q sigma all r zero e f = crossed-zero m sigma all r ∙ ap (λ x. x .0) (sym (partial-zero K p q r))
   crossed-number p q sigma all r (suc c) e f =
       crossed-suc m sigma all r c
-      ∙ ap₂ (λ x y. Sum._⊕_ x y) (crossed-number p q sigma all r c (λ i h. e i (omega arith)) f) (ap₂ (λ x y. x ⊗⟨ m ⟩ y) (e c (omega arith)) (f (r - c) (omega arith)))
+      ∙ ap₂ (λ x y. Sum._⊕_ x y) (crossed-number p q sigma all r c (λ i h. e i (omega arith)) f)
+      (ap₂ (λ x y. x ⊗⟨ m ⟩ y) (e c (omega arith)) (f (r - c) (omega arith)))
       ∙ ap (λ x. x .0) (sym (partial-suc K p q r c))
 
   module _ (S : Series K) (r : ℕ) where
@@ -140,7 +141,7 @@ module _ {m : ℕ} (L : Listed m) where
     next-degree : (x : State F) → run F S (suc r) ≡ x → ZeroFrom K (suc (x .L)) (x .σ)
     next-degree x e = subst (λ (z : State F). ZeroFrom K (suc (z .L)) (z .σ)) e (run-degree F S (suc r))
 
-module _ {m t l gap q : ℕ} {L : Listed m} {s : State (field m L)} {sigma b : List ℕ} (w : Holds m t L s l gap q sigma b) where
+module _ {m t l gap q : ℕ} {L : IsField m} {s : State (field m L)} {sigma b : List ℕ} (w : Holds m t L s l gap q sigma b) where
   abbrev E : Field
   E = field m L
 
@@ -166,7 +167,8 @@ module _ {m t l gap q : ℕ} {L : Listed m} {s : State (field m L)} {sigma b : L
         b-holds = holds-shifted;
       }
 
-  module _ {d factor count : ℕ} {after : List ℕ} (D : R .El) (e : d ≡ D .0) (f : factor ≡ d ⊗⟨ m ⟩ q) (fill : Filled (plusMoved m factor gap b sigma) count sigma after)
+  module _ {d factor count : ℕ} {after : List ℕ} (D : R .El) (e : d ≡ D .0) (f : factor ≡ d ⊗⟨ m ⟩ q)
+      (fill : Filled (plusMoved m factor gap b sigma) count sigma after)
       (old : ZeroFrom R count (s .σ)) (new : ZeroFrom R count (mended E D s)) where
     mended-number : (i : ℕ) → i < t + 2 → getD after i 0 ≡ (mended E D s i) .0
     mended-number i h = pick (decLt i count)
@@ -192,7 +194,8 @@ module _ {m t l gap q : ℕ} {L : Listed m} {s : State (field m L)} {sigma b : L
           b-holds = holds-shifted;
         }
 
-    holds-renewed : (r : ℕ) {next inv : ℕ} {copy : List ℕ} → next ≡ suc r - s .L → inv ≡ inverse m d → Filled (entry sigma) (t + 2) b copy → Holds m t L (corrected E true D r s) next 1 inv after copy
+    holds-renewed : (r : ℕ) {next inv : ℕ} {copy : List ℕ} → next ≡ suc r - s .L → inv ≡ inverse m d
+        → Filled (entry sigma) (t + 2) b copy → Holds m t L (corrected E true D r s) next 1 inv after copy
     holds-renewed r {next} {inv} {copy} n v c =
         record {
           length-is = n;
@@ -241,7 +244,8 @@ module _ {m t r l gap q d : ℕ} {all sigma b : List ℕ} (h : Held m t all r l 
   missed-is =
       is
       ∙ ap (crossed m sigma all r) (add-one l)
-      ∙ crossed-number (h .listed) (now .σ) S sigma all r (suc l) (λ i k. h .holds .sigma-holds i (omega (arith, h .short))) (λ i k. sym (series-at (h .listed) all i (h .sums-below i (omega arith))))
+      ∙ crossed-number (h .listed) (now .σ) S sigma all r (suc l) (λ i k. h .holds .sigma-holds i (omega (arith, h .short)))
+      (λ i k. sym (series-at (h .listed) all i (h .sums-below i (omega arith))))
       ∙ ap (λ x. x .0) (sym (partial-past P (now .σ) S r (suc l) degree-here (r - l)) ∙ ap (partial P (now .σ) S r) end ∙ partial-product P r (now .σ) S)
     where
       end : suc l + (r - l) ≡ suc r
@@ -256,12 +260,21 @@ module _ {m t r l gap q d : ℕ} {all sigma b : List ℕ} (h : Held m t all r l 
   missed-some : (d ≡ 0 → ⊥) → miss ≡ P .𝟘 → ⊥
   missed-some n z = n (missed-is ∙ ap (λ x. x .0) z)
 
-  stepped-as : {l′ gap′ q′ : ℕ} {sigma′ b′ : List ℕ} (x : State G) → run G S (suc r) ≡ x → Holds m t (h .listed) x l′ gap′ q′ sigma′ b′ → gap′ ≤ r + 1 + 1 → Stepped m t all (r + 1) l′ gap′ q′ sigma′ b′
+  stepped-as : {l′ gap′ q′ : ℕ} {sigma′ b′ : List ℕ} (x : State G) → run G S (suc r) ≡ x
+      → Holds m t (h .listed) x l′ gap′ q′ sigma′ b′ → gap′ ≤ r + 1 + 1 → Stepped m t all (r + 1) l′ gap′ q′ sigma′ b′
   stepped-as {l′} {gap′} {q′} {sigma′} {b′} x e w g =
       record {
         listed = h .listed;
         length-is = w .length-is ∙ ap (λ z. z .L) (sym path);
-        held = λ k. record { listed = h .listed; sums-below = h .sums-below; short = k; gap-within = g; holds = subst (λ (z : State G). Holds m t (h .listed) z l′ gap′ q′ sigma′ b′) (sym path) w };
+        held =
+            λ k.
+            record {
+              listed = h .listed;
+              sums-below = h .sums-below;
+              short = k;
+              gap-within = g;
+              holds = subst (λ (z : State G). Holds m t (h .listed) z l′ gap′ q′ sigma′ b′) (sym path) w;
+            };
       }
     where
       path : run G S (r + 1) ≡ x
@@ -280,10 +293,12 @@ module _ {m t r l gap q d : ℕ} {all sigma b : List ℕ} (h : Held m t all r l 
     next-length : r + 1 - l ≡ suc r - now .L
     next-length = ap₂ (λ x y. x - y) (add-one r) (h .holds .length-is)
 
-    pub step-kept : {factor : ℕ} {after : List ℕ} → r < 2 * l → factor ≡ d ⊗⟨ m ⟩ q → Filled (plusMoved m factor gap b sigma) (l + 1) sigma after → Stepped m t all (r + 1) l (gap + 1) q after b
+    pub step-kept : {factor : ℕ} {after : List ℕ} → r < 2 * l → factor ≡ d ⊗⟨ m ⟩ q
+        → Filled (plusMoved m factor gap b sigma) (l + 1) sigma after → Stepped m t all (r + 1) l (gap + 1) q after b
     step-kept k f fill =
         stepped-as (corrected G false miss r now) (kept-is k)
-        (holds-kept (h .holds) miss missed-is f (rw (add-one l) at fill) degree-here (rw (h .holds .length-is) (next-degree (h .listed) S r (corrected G false miss r now) (kept-is k))) r)
+        (holds-kept (h .holds) miss missed-is f (rw (add-one l) at fill) degree-here
+        (rw (h .holds .length-is) (next-degree (h .listed) S r (corrected G false miss r now) (kept-is k))) r)
         (omega (arith, h .gap-within))
 
     pub step-over : 2 * l ≤ r → t < r + 1 - l → Stepped m t all (r + 1) (r + 1 - l) gap q sigma b
@@ -294,7 +309,8 @@ module _ {m t r l gap q d : ℕ} {all sigma b : List ℕ} (h : Held m t all r l 
           held = λ z. absurd (omega arith);
         }
 
-    pub step-renewed : {factor inv : ℕ} {after copy : List ℕ} → 2 * l ≤ r → factor ≡ d ⊗⟨ m ⟩ q → Filled (plusMoved m factor gap b sigma) (r + 1 - l + 1) sigma after → Filled (entry sigma) (t + 2) b copy
+    pub step-renewed : {factor inv : ℕ} {after copy : List ℕ} → 2 * l ≤ r → factor ≡ d ⊗⟨ m ⟩ q
+        → Filled (plusMoved m factor gap b sigma) (r + 1 - l + 1) sigma after → Filled (entry sigma) (t + 2) b copy
         → inv ≡ inverse m d → Stepped m t all (r + 1) (r + 1 - l) 1 inv after copy
     step-renewed k f fill c v =
         stepped-as (corrected G true miss r now) (renewed-is k)
@@ -311,11 +327,12 @@ start-place xs i e = getD-set-other xs 0 (suc i) 1 0 (λ z. omega arith) ∙ ap 
 start-first : (xs : List ℕ) → xs ≡ replicate 257 0 → getD (set xs 0 1) 0 0 ≡ 1
 start-first xs e = getD-set-same xs 0 1 0 (omega (arith, space-long e))
 
-start-is : {m : ℕ} (L : Listed m) (xs : List ℕ) → xs ≡ replicate 257 0 → (i : ℕ) → getD (set xs 0 1) i 0 ≡ (oneSeries (ringOf m L) i) .0
+start-is : {m : ℕ} (L : IsField m) (xs : List ℕ) → xs ≡ replicate 257 0 → (i : ℕ) → getD (set xs 0 1) i 0 ≡ (oneSeries (ringOf m L) i) .0
 start-is {m} L xs e zero = start-first xs e ∙ ap (λ x. x .0) (sym (one-zero (ringOf m L)))
 start-is {m} L xs e (suc i) = start-place xs i e ∙ ap (λ x. x .0) (sym (one-suc (ringOf m L) i))
 
-start-moved : {m : ℕ} (L : Listed m) (xs : List ℕ) → xs ≡ replicate 257 0 → (i : ℕ) → 1 ⊗⟨ m ⟩ getD (replicate 1 0 ++ set xs 0 1) i 0 ≡ (shift (ringOf m L) (oneSeries (ringOf m L)) i) .0
+start-moved : {m : ℕ} (L : IsField m) (xs : List ℕ) → xs ≡ replicate 257 0 → (i : ℕ)
+    → 1 ⊗⟨ m ⟩ getD (replicate 1 0 ++ set xs 0 1) i 0 ≡ (shift (ringOf m L) (oneSeries (ringOf m L)) i) .0
 start-moved {m} L xs e zero = product-zero m 1 ∙ ap (λ x. x .0) (sym (shift-zero (ringOf m L) (oneSeries (ringOf m L))))
 start-moved {m} L xs e (suc i) =
     ap (λ z. 1 ⊗⟨ m ⟩ z) (start-is L xs e i)
@@ -325,7 +342,8 @@ start-moved {m} L xs e (suc i) =
 start-long : (xs : List ℕ) → xs ≡ replicate 257 0 → length (set xs 0 1) ≡ 257
 start-long xs e = length-set xs 0 1 ∙ space-long e
 
-pub held-start : {m t : ℕ} {all sigma b : List ℕ} → Listed m → t ≤ 255 → ((i : ℕ) → i < 2 * t → getD all i 0 < 2 ^ m) → sigma ≡ replicate 257 0 → b ≡ replicate 257 0
+pub held-start : {m t : ℕ} {all sigma b : List ℕ} → IsField m → t ≤ 255 → ((i : ℕ) → i < 2 * t → getD all i 0 < 2 ^ m)
+    → sigma ≡ replicate 257 0 → b ≡ replicate 257 0
     → Held m t all 0 0 1 1 (set sigma 0 1) (set b 0 1)
 held-start {m} {t} {all} {sigma} {b} L h below e f =
     record {
@@ -356,6 +374,10 @@ pub solved-done : {m t r l gap q : ℕ} {all sigma b : List ℕ} → Held m t al
 solved-done {m} {t} {r} {l} {all = all} {sigma} s e =
     record {
       listed = s .listed;
-      short = λ k. (s .holds .length-is ∙ ap (λ n. stateAt (s .listed) all n .L) e, λ i b. s .holds .sigma-holds i b ∙ ap (λ n. (stateAt (s .listed) all n .σ i) .0) e);
+      short =
+          λ k. (
+            s .holds .length-is ∙ ap (λ n. stateAt (s .listed) all n .L) e,
+            λ i b. s .holds .sigma-holds i b ∙ ap (λ n. (stateAt (s .listed) all n .σ i) .0) e,
+          );
       passes = λ k. absurd (omega (arith, s .short));
     }

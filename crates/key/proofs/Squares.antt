@@ -7,7 +7,7 @@ use native.Mathlib.Decide.{ℕ-discrete}
 use lib.ListN.{length, getD, set, length-set}
 use lib.Seq.{getD-set-same, getD-set-other}
 use borrow.Author.Count.{below-more}
-use Rattle.field.specs.Product.{Listed, _⊗⟨_⟩_}
+use Rattle.field.specs.Product.{IsField, _⊗⟨_⟩_}
 use Rattle.field.proofs.ProductLaws.{product-bound}
 use Rattle.key.specs.Work.{Squared}
 
@@ -19,7 +19,14 @@ pub record Squaring (m t : ℕ) (sums first all : List ℕ) (i : ℕ) : Type 0 w
   pub below : (k : ℕ) → k < 2 * i → getD all k 0 < 2 ^ m
 
 pub squaring-start : (m t : ℕ) (sums all : List ℕ) → Squaring m t sums all all 0
-squaring-start m t sums all = record { within = omega arith; same = refl; odd = λ k h. absurd (omega arith); even = λ k h. absurd (omega arith); below = λ k h. absurd (omega arith) }
+squaring-start m t sums all =
+    record {
+      within = omega arith;
+      same = refl;
+      odd = λ k h. absurd (omega arith);
+      even = λ k h. absurd (omega arith);
+      below = λ k h. absurd (omega arith);
+    }
 
 -- after the first store of a turn
 pub squaring-below : {m t i : ℕ} {sums first all : List ℕ} → Squaring m t sums first all i → 2 * i < length first → getD sums i 0 < 2 ^ m
@@ -30,16 +37,19 @@ squaring-below {m} {i = i} {sums} {first} {all} s l h k b = pick (ℕ-discrete k
     pick (yes e) = rw (e, getD-set-same all (2 * i) (getD sums i 0) 0 (omega (arith, s .same))) h
     pick (no n) = rw (getD-set-other all (2 * i) k (getD sums i 0) 0 n) (s .below k (omega arith))
 
-pub squaring-next : {m t i v : ℕ} {sums first all : List ℕ} → Listed m → Squaring m t sums first all i → i < t → 2 * t ≤ length first → getD sums i 0 < 2 ^ m
+pub squaring-next : {m t i v : ℕ} {sums first all : List ℕ} → IsField m → Squaring m t sums first all i → i < t → 2 * t ≤ length first → getD sums i 0 < 2 ^ m
     → v ≡ getD (set all (2 * i) (getD sums i 0)) i 0 ⊗⟨ m ⟩ getD (set all (2 * i) (getD sums i 0)) i 0
     → Squaring m t sums first (set (set all (2 * i) (getD sums i 0)) (2 * i + 1) v) (i + 1)
 squaring-next {m} {t} {i} {v} {sums} {first} {all} L s h l b e =
     record {
       within = omega arith;
       same = simp length-set (s .same);
-      odd = below-more _ i (λ k g. after (2 * k) (λ z. omega arith) ∙ before (2 * k) (λ z. omega arith) ∙ s .odd k g) (after (2 * i) (λ z. omega arith) ∙ getD-set-same all (2 * i) (getD sums i 0) 0 (omega (arith, s .same)));
+      odd =
+          below-more _ i (λ k g. after (2 * k) (λ z. omega arith) ∙ before (2 * k) (λ z. omega arith) ∙ s .odd k g)
+          (after (2 * i) (λ z. omega arith) ∙ getD-set-same all (2 * i) (getD sums i 0) 0 (omega (arith, s .same)));
       even = below-more _ i
-          (λ k g. after (2 * k + 1) (λ z. omega arith) ∙ before (2 * k + 1) (λ z. omega arith) ∙ s .even k g ∙ ap (λ (z : ℕ). z ⊗⟨ m ⟩ z) (sym (after k (λ z. omega arith) ∙ before k (λ z. omega arith))))
+          (λ k g. after (2 * k + 1) (λ z. omega arith) ∙ before (2 * k + 1) (λ z. omega arith) ∙ s .even k g
+          ∙ ap (λ (z : ℕ). z ⊗⟨ m ⟩ z) (sym (after k (λ z. omega arith) ∙ before k (λ z. omega arith))))
           (top ∙ e ∙ ap (λ (z : ℕ). z ⊗⟨ m ⟩ z) (sym (after i (λ z. omega arith))));
       below = under;
     }

@@ -10,7 +10,8 @@ ghost use Rattle.key.specs.Held.{Held, Stepped, Solved, SolvedFor};
 
 // All 2t sums from the t odd ones.
 fn square_sums(m: usize, powers: &[u16], logs: &[u16], t: usize, sums: &[u16], all: &mut [u16])
-    requires { ⌜ (Tables m (now powers) (now logs)) × (t ≤ length (now sums)) × ((i : ℕ) → i < t → getD (now sums) i 0 < 2 ^ m) × (t ≤ 255) × (2 * t ≤ length (now all)) ⌝ }
+    requires { ⌜ (Tables m (now powers) (now logs)) × (t ≤ length (now sums)) × ((i : ℕ) → i < t → getD (now sums) i 0 < 2 ^ m) × (t ≤ 255)
+        × (2 * t ≤ length (now all)) ⌝ }
     ensures { λ _. ⌜ Squared m t (now (sums .entry)) (now (all .exit)) ⌝ }
 {
     let mut i = 0;
@@ -40,7 +41,8 @@ fn missed(
     r: usize,
     l: usize,
 ) -> u16
-    requires { ⌜ (Tables m (now powers) (now logs)) × (l ≤ r) × (l < length (now sigma)) × (r < length (now all)) × ((i : ℕ) → i ≤ l → getD (now sigma) i 0 < 2 ^ m) × ((i : ℕ) → i ≤ r → getD (now all) i 0 < 2 ^ m) ⌝ }
+    requires { ⌜ (Tables m (now powers) (now logs)) × (l ≤ r) × (l < length (now sigma)) × (r < length (now all))
+        × ((i : ℕ) → i ≤ l → getD (now sigma) i 0 < 2 ^ m) × ((i : ℕ) → i ≤ r → getD (now all) i 0 < 2 ^ m) ⌝ }
     ensures { λ d. ⌜ d ≡ crossed m (now (sigma .entry)) (now (all .entry)) r (l + 1) ⌝ }
 {
     let mut d = 0;
@@ -64,7 +66,8 @@ fn mend(
     b: &[u16],
     sigma: &mut [u16],
 )
-    requires { ⌜ (Tables m (now powers) (now logs)) × (factor < 2 ^ m) × (count ≤ length (now b)) × (count ≤ length (now sigma)) × ((i : ℕ) → i < count → getD (now b) i 0 < 2 ^ m) ⌝ }
+    requires { ⌜ (Tables m (now powers) (now logs)) × (factor < 2 ^ m) × (count ≤ length (now b)) × (count ≤ length (now sigma))
+        × ((i : ℕ) → i < count → getD (now b) i 0 < 2 ^ m) ⌝ }
     ensures { λ _. ⌜ Filled (plusMoved m factor gap (now (b .entry)) (now (sigma .entry))) count (now (sigma .entry)) (now (sigma .exit)) ⌝ }
 {
     let mut i = gap;
@@ -102,8 +105,10 @@ fn renew(
     sigma: &mut [u16],
     b: &mut [u16],
 )
-    requires { ⌜ (Tables m (now powers) (now logs)) × (factor < 2 ^ m) × (count ≤ whole) × (whole ≤ 257) × (whole ≤ length (now b)) × (whole ≤ length (now sigma)) × ((i : ℕ) → i < count → getD (now b) i 0 < 2 ^ m) ⌝ }
-    ensures { λ _. ⌜ Filled (plusMoved m factor gap (now (b .entry)) (now (sigma .entry))) count (now (sigma .entry)) (now (sigma .exit)) × Filled (entry (now (sigma .entry))) whole (now (b .entry)) (now (b .exit)) ⌝ }
+    requires { ⌜ (Tables m (now powers) (now logs)) × (factor < 2 ^ m) × (count ≤ whole) × (whole ≤ 257) × (whole ≤ length (now b))
+        × (whole ≤ length (now sigma)) × ((i : ℕ) → i < count → getD (now b) i 0 < 2 ^ m) ⌝ }
+    ensures { λ _. ⌜ Filled (plusMoved m factor gap (now (b .entry)) (now (sigma .entry))) count (now (sigma .entry)) (now (sigma .exit))
+        × Filled (entry (now (sigma .entry))) whole (now (b .entry)) (now (b .exit)) ⌝ }
 {
     let mut old = space();
     entries::copy_first(whole, sigma, &mut old);
@@ -123,7 +128,8 @@ fn step(
     sigma: &mut [u16],
     b: &mut [u16],
 ) -> At
-    requires { ⌜ (Tables m (now powers) (now logs)) × (t ≤ 255) × (2 * t ≤ length (now all)) × (r < 2 * t) × Held m t (now all) r (at .l) (at .gap) (at .q) (now sigma) (now b) ⌝ }
+    requires { ⌜ (Tables m (now powers) (now logs)) × (t ≤ 255) × (2 * t ≤ length (now all)) × (r < 2 * t)
+        × Held m t (now all) r (at .l) (at .gap) (at .q) (now sigma) (now b) ⌝ }
     ensures { λ x. ⌜ Stepped m t (now (all .entry)) (r + 1) (x .l) (x .gap) (x .q) (now (sigma .exit)) (now (b .exit)) ⌝ }
 {
     let l = at.l;
@@ -162,7 +168,8 @@ fn run_all(
     sigma: &mut [u16],
     b: &mut [u16],
 ) -> usize
-    requires { ⌜ (Tables m (now powers) (now logs)) × (t ≤ 255) × (2 * t ≤ length (now all)) × ((i : ℕ) → i < 2 * t → getD (now all) i 0 < 2 ^ m) × (now sigma ≡ replicate 257 0) × (now b ≡ replicate 257 0) ⌝ }
+    requires { ⌜ (Tables m (now powers) (now logs)) × (t ≤ 255) × (2 * t ≤ length (now all))
+        × ((i : ℕ) → i < 2 * t → getD (now all) i 0 < 2 ^ m) × (now sigma ≡ replicate 257 0) × (now b ≡ replicate 257 0) ⌝ }
     ensures { λ l. ⌜ Solved m t (now (all .entry)) l (now (sigma .exit)) ⌝ }
 {
     sigma[0] = 1;
@@ -189,7 +196,8 @@ pub fn solve(
     sums: &[u16],
     sigma: &mut [u16],
 ) -> usize
-    requires { ⌜ (Tables m (now powers) (now logs)) × (t ≤ 255) × (t ≤ length (now sums)) × ((i : ℕ) → i < t → getD (now sums) i 0 < 2 ^ m) × (now sigma ≡ replicate 257 0) ⌝ }
+    requires { ⌜ (Tables m (now powers) (now logs)) × (t ≤ 255) × (t ≤ length (now sums)) × ((i : ℕ) → i < t → getD (now sums) i 0 < 2 ^ m)
+        × (now sigma ≡ replicate 257 0) ⌝ }
     ensures { λ l. ⌜ SolvedFor m t (now (sums .entry)) l (now (sigma .exit)) ⌝ }
 {
     let mut all = sums_space();

@@ -1,5 +1,6 @@
 -- The lead of a word, and the fields of one whose lead is right.
 use mathlib.Core.Path.{_≡_, _∙_, sym, ap}
+use mathlib.Core.Bool.{true, false, true≢false}
 use mathlib.Core.List.{List}
 use Prim.Native.Nat.{ℕ, _+_, _-_, _/_, _%_, _^_, _≤_, _<_}
 use native.Mathlib.Decide.{ℕ-discrete, decLt}
@@ -8,7 +9,7 @@ use native.Mathlib.Omega.{arith}
 use borrow.Author.Tests.{eq-eqb, ne-eqb}
 use lib.ListN.{getD}
 use Rattle.layout.specs.declared.message.Reading.{Reading}
-use Rattle.layout.specs.Frame.{messageBit, leadRefusal, Carries}
+use Rattle.layout.specs.Frame.{messageBit, leadIsWrong, Carries}
 use Rattle.layout.specs.Work.{Gathered}
 use Rattle.layout.proofs.SentLaws.{air-place}
 use Rattle.layout.proofs.MessageLaws.{message-counter, message-poll, message-house, message-lead}
@@ -32,27 +33,20 @@ no-digit x h e =
 
 -- the lead is right exactly if its three places, or the number that they send, are 0
 
-pub lead-none : (word : List ℕ) → getD word 252 0 + getD word 253 0 + getD word 254 0 ≡ 0 → leadRefusal word ≡ 0
-unfolding leadRefusal
+pub lead-none : (word : List ℕ) → getD word 252 0 + getD word 253 0 + getD word 254 0 ≡ 0 → leadIsWrong word ≡ false
+unfolding leadIsWrong
 lead-none word z = rw (eq-eqb (getD word 252 0 + getD word 253 0 + getD word 254 0) 0 z)
 
-lead-some : (word : List ℕ) → (getD word 252 0 + getD word 253 0 + getD word 254 0 ≡ 0 → ⊥) → leadRefusal word ≡ 11
-unfolding leadRefusal
+lead-some : (word : List ℕ) → (getD word 252 0 + getD word 253 0 + getD word 254 0 ≡ 0 → ⊥) → leadIsWrong word ≡ true
+unfolding leadIsWrong
 lead-some word n = rw (ne-eqb (getD word 252 0 + getD word 253 0 + getD word 254 0) 0 n)
 
-lead-zero : (word : List ℕ) → leadRefusal word ≡ 0 → getD word 252 0 + getD word 253 0 + getD word 254 0 ≡ 0
+lead-zero : (word : List ℕ) → leadIsWrong word ≡ false → getD word 252 0 + getD word 253 0 + getD word 254 0 ≡ 0
 lead-zero word z = pick (ℕ-discrete (getD word 252 0 + getD word 253 0 + getD word 254 0) 0)
   where
     pick : Dec (getD word 252 0 + getD word 253 0 + getD word 254 0 ≡ 0) → getD word 252 0 + getD word 253 0 + getD word 254 0 ≡ 0
     pick (yes e) = e
-    pick (no n) = absurd (omega (arith, lead-some word n))
-
-pub lead-not-far : (word : List ℕ) → leadRefusal word ≡ 6 → ⊥
-lead-not-far word z = pick (ℕ-discrete (getD word 252 0 + getD word 253 0 + getD word 254 0) 0)
-  where
-    pick : Dec (getD word 252 0 + getD word 253 0 + getD word 254 0 ≡ 0) → ⊥
-    pick (yes e) = omega (arith, lead-none word e)
-    pick (no n) = omega (arith, lead-some word n)
+    pick (no n) = absurd (true≢false (sym (lead-some word n) ∙ z))
 
 module _ {word : List ℕ} {lead : ℕ} (g : Gathered word 0 3 lead) where
   lead-places : getD word 252 0 + getD word 253 0 + getD word 254 0 ≡ lead % 2 + lead / 2 % 2 + lead / 4 % 2
@@ -62,14 +56,15 @@ module _ {word : List ℕ} {lead : ℕ} (g : Gathered word 0 3 lead) where
       let d = field-at g (omega arith) 2 (omega arith) in
       omega arith
 
-  pub lead-right : lead ≡ 0 → leadRefusal word ≡ 0
+  pub lead-right : lead ≡ 0 → leadIsWrong word ≡ false
   lead-right z = lead-none word (omega (arith, lead-places))
 
-  pub lead-wrong : (lead ≡ 0 → ⊥) → leadRefusal word ≡ 11
+  pub lead-wrong : (lead ≡ 0 → ⊥) → leadIsWrong word ≡ true
   lead-wrong n = lead-some word (λ e. n (no-digit lead (g .digits .below) (sym lead-places ∙ e)))
 
 -- the three fields of a word whose lead is right
-module _ {word : List ℕ} {house poll counter : ℕ} (z : leadRefusal word ≡ 0) (h : Gathered word 3 16 house) (p : Gathered word 19 16 poll) (q : Gathered word 35 64 counter) where
+module _ {word : List ℕ} {house poll counter : ℕ} (z : leadIsWrong word ≡ false) (h : Gathered word 3 16 house)
+    (p : Gathered word 19 16 poll) (q : Gathered word 35 64 counter) where
   abbrev pub told : Reading
   told = record { house = house; poll = poll; counter = counter }
 
@@ -84,7 +79,11 @@ module _ {word : List ℕ} {house poll counter : ℕ} (z : leadRefusal word ≡ 
           rw e (omega (arith, lead-zero word z))
 
   pub carried : Carries told word
-  carried = record { lawful = record { house = h .digits .below; poll = p .digits .below; counter = q .digits .below }; message = λ i k. pick i k (decLt i 64) (decLt i 80) (decLt i 96) }
+  carried =
+      record {
+        lawful = record { house = h .digits .below; poll = p .digits .below; counter = q .digits .below };
+        message = λ i k. pick i k (decLt i 64) (decLt i 80) (decLt i 96);
+      }
     where
       pick : (i : ℕ) → i < 99 → Dec (i < 64) → Dec (i < 80) → Dec (i < 96) → getD word (156 + i) 0 ≡ messageBit told i
       pick i k (yes l) b d = field-at q (omega arith) i l ∙ sym (message-counter told l)

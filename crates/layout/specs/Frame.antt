@@ -1,11 +1,10 @@
 -- The reading frame: "Sent number q, 0 to 254, is place 254 - q; it stands in byte q/8 with weight 128 shifted right by q mod 8. Sent number 255 is a pad, 0."
 use mathlib.Core.Path.{_≡_}
-use mathlib.Core.Bool.{cond, not}
+use mathlib.Core.Bool.{Bool, cond, not}
 use mathlib.Core.List.{List}
 use Prim.Native.Nat.{ℕ, _+_, _-_, _/_, _%_, _^_, _<_}
 use lib.Dec.{ltb, eqb}
 use lib.ListN.{getD}
-use Rattle.sheet.specs.Number.{refuseIf}
 use Rattle.bits.specs.Bits.{listOf}
 use Rattle.layout.specs.declared.message.Reading.{Reading}
 
@@ -41,6 +40,6 @@ pub record Carries (reading : Reading) (word : List ℕ) : Type 0 where
   pub lawful : Lawful reading
   pub message : (i : ℕ) → i < 99 → getD word (156 + i) 0 ≡ messageBit reading i
 
--- the check that reading a frame makes after 6: message places 96 to 98, all bits, hold 0
-unfoldable pub leadRefusal : List ℕ → ℕ
-leadRefusal word = refuseIf (not (eqb (getD word 252 0 + getD word 253 0 + getD word 254 0) 0)) 11 0
+-- check 11 looks at message places 96 to 98, all bits: they are to hold 0
+unfoldable pub leadIsWrong : List ℕ → Bool
+leadIsWrong word = not (eqb (getD word 252 0 + getD word 253 0 + getD word 254 0) 0)

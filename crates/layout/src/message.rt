@@ -1,9 +1,10 @@
 // A reading and its message: the fields into bits, and back.
 
 ghost use mathlib.Core.Path.{_≡_};
+ghost use mathlib.Core.Bool.{false};
 ghost use lib.ListN.{length, replicate};
 ghost use Rattle.bits.specs.Bits.{AreBits};
-ghost use Rattle.layout.specs.Frame.{messageBit, messageOf, leadRefusal, Carries};
+ghost use Rattle.layout.specs.Frame.{messageBit, messageOf, leadIsWrong, Carries};
 use crate::places;
 use crate::places::Sent;
 
@@ -48,7 +49,7 @@ fn message_bit(reading: Reading, i: usize) -> u8
 
 // The fields of a word whose lead is right, each highest bit first.
 pub fn reading_of(word: &[u8]) -> Reading
-    requires { ⌜ AreBits (now word) × (length (now word) ≡ 255) × (leadRefusal (now word) ≡ 0) ⌝ }
+    requires { ⌜ AreBits (now word) × (length (now word) ≡ 255) × (leadIsWrong (now word) ≡ false) ⌝ }
     ensures { λ r. ⌜ Carries r (now (word .entry)) ⌝ }
 {
     let house = places::gather(word, Sent { number: 3 }, 16);

@@ -64,7 +64,8 @@ decimal-fits {n} h = decimal-length 19 n (omega arith)
 
 sets-append : (l : List ℕ) (i : ℕ) (s t : List ℕ) → sets l i (s ++ t) ≡ sets (sets l i s) (i + length s) t
 sets-append l i [] t = ap (λ (k : ℕ). sets l k t) (sym (add-zero i))
-sets-append l i (a ∷ s) t = sets-append (set l i a) (suc i) s t ∙ ap (λ (k : ℕ). sets (sets (set l i a) (suc i) s) k t) (suc-add i (length s) ∙ sym (add-suc i (length s)))
+sets-append l i (a ∷ s) t =
+    sets-append (set l i a) (suc i) s t ∙ ap (λ (k : ℕ). sets (sets (set l i a) (suc i) s) k t) (suc-add i (length s) ∙ sym (add-suc i (length s)))
 
 pub put-one : (l : List ℕ) (at v : ℕ) → Put l at (v ∷ []) (set l at v) (at + 1)
 put-one l at v = record { is = refl; next-is = refl }
@@ -89,14 +90,17 @@ put-line {l} {line} p h =
 
 -- the fields of a line one after another
 
-pub read-line : {l m₁ m₂ m₃ m₄ r : List ℕ} {f wrong a b d e n : ℕ} (reading : Reading) → PutField l 0 f readText m₁ a → PutField m₁ a (reading .house) space m₂ b
-    → PutField m₂ b (reading .poll) space m₃ d → PutField m₃ d (reading .counter) space m₄ e → PutField m₄ e wrong newline r n → 128 ≤ length l → Writes (readLine f reading wrong) l r n
+pub read-line : {l m₁ m₂ m₃ m₄ r : List ℕ} {f wrong a b d e n : ℕ} (reading : Reading) → PutField l 0 f readText m₁ a
+    → PutField m₁ a (reading .house) space m₂ b
+    → PutField m₂ b (reading .poll) space m₃ d → PutField m₃ d (reading .counter) space m₄ e → PutField m₄ e wrong newline r n → 128 ≤ length l
+    → Writes (readLine f reading wrong) l r n
 unfolding readLine
 read-line {l} {r = r} {f} {wrong} {n = n} reading p₁ p₂ p₃ p₄ p₅ h =
     let p = put-then (put-then (put-then (put-then (p₁ .put) (p₂ .put)) (p₃ .put)) (p₄ .put)) (p₅ .put) in
     put-line (simp append-assoc (simp append-assoc at p)) (omega (arith, p₁ .most, p₂ .most, p₃ .most, p₄ .most, p₅ .most))
 
-pub refused-line : {l m r : List ℕ} {f given a n : ℕ} (refusal : Refusal) → given ≡ numberOf refusal → PutField l 0 f refusedText m a → PutField m a given newline r n → 128 ≤ length l
+pub refused-line : {l m r : List ℕ} {f given a n : ℕ} (refusal : Refusal) → given ≡ numberOf refusal → PutField l 0 f refusedText m a
+    → PutField m a given newline r n → 128 ≤ length l
     → Writes (refusedLine f refusal) l r n
 unfolding refusedLine
 refused-line refusal e p₁ p₂ h =

@@ -1,4 +1,5 @@
--- One line of the listing: "frame number from 1; `read` or `refused`; after `read` the house, poll, counter and wrong places, all decimal, single spaces; after `refused` the number".
+-- One line of the listing: "frame number from 1; `read` or `refused`; after `read` the house, poll, counter and wrong places, all decimal, single spaces;
+-- after `refused` the number".
 use mathlib.Core.Path.{_≡_}
 use mathlib.Core.Bool.{cond}
 use mathlib.Core.List.{List, [], _∷_, _++_}
@@ -6,10 +7,11 @@ use Prim.Native.Nat.{ℕ, zero, suc, _+_, _/_, _%_}
 use lib.Dec.{ltb}
 use lib.ListN.{length, drop}
 use Rattle.sheet.specs.declared.Refusal.{Refusal}
+use Rattle.sheet.specs.declared.Outcome.{Outcome}
+use Rattle.sheet.specs.declared.Outcome.the-variants.{Done, Refused}
 use Rattle.sheet.specs.Number.{numberOf}
 use Rattle.layout.specs.declared.message.Reading.{Reading}
 use Rattle.frame.specs.declared.reading.ReadFrame.{ReadFrame}
-use Rattle.frame.specs.declared.reading.ReadFrame.the-variants.{Read, Refused}
 
 -- the decimal digits of n in ASCII, highest first and none to spare; the first number bounds how many there are
 unfoldable pub digitsUpTo : ℕ → ℕ → List ℕ
@@ -36,14 +38,18 @@ newline = 10 ∷ []
 
 unfoldable pub readLine : ℕ → Reading → ℕ → List ℕ
 readLine f reading wrong =
-    decimal f ++ readText ++ decimal (reading .house) ++ space ++ decimal (reading .poll) ++ space ++ decimal (reading .counter) ++ space ++ decimal wrong ++ newline
+    decimal f ++ readText ++ decimal (reading .house) ++ space ++ decimal (reading .poll) ++ space ++ decimal
+    (reading .counter) ++ space ++ decimal wrong ++ newline
 
 unfoldable pub refusedLine : ℕ → Refusal → List ℕ
 refusedLine f r = decimal f ++ refusedText ++ decimal (numberOf r) ++ newline
 
+abbrev pub lineFor : ℕ → Outcome → Reading → ℕ → List ℕ
+lineFor f Done reading wrong = readLine f reading wrong
+lineFor f (Refused r) reading wrong = refusedLine f r
+
 abbrev pub lineOf : ℕ → ReadFrame → List ℕ
-lineOf f (Read reading wrong) = readLine f reading wrong
-lineOf f (Refused r) = refusedLine f r
+lineOf f answer = lineFor f (answer .outcome) (answer .reading) (answer .wrong)
 
 -- the line stands at the front of the buffer, the rest is as lent, and the line's length comes back
 pub record Writes (line lent left : List ℕ) (count : ℕ) : Type 0 where

@@ -6,6 +6,7 @@ ghost use Rattle.line.specs.Line.{decimal, readLine, refusedLine, lineOf
 ghost use Rattle.line.specs.Work.{Put, PutField};
 use frame::ReadFrame;
 use layout::Reading;
+use sheet::Outcome;
 use sheet::Refusal;
 
 // The line of frame `number`; any line fits into 128 bytes. Gives its length.
@@ -13,9 +14,13 @@ pub fn write_line(number: u64, answer: ReadFrame, out: &mut [u8]) -> usize
     requires { ⌜ 128 ≤ length (now out) ⌝ }
     ensures { λ r. ⌜ Writes (lineOf number answer) (now (out .entry)) (now (out .exit)) r ⌝ }
 {
-    match answer {
-        ReadFrame::Read { reading, wrong } => write_read(number, reading, wrong, out),
-        ReadFrame::Refused(r) => write_refused(number, r, out),
+    let outcome = answer.outcome;
+    match outcome {
+        Outcome::Done => {
+            let reading = answer.reading;
+            write_read(number, reading, answer.wrong, out)
+        }
+        Outcome::Refused(r) => write_refused(number, r, out),
     }
 }
 

@@ -20,7 +20,7 @@ use Rattle.algebra.proofs.Finds.{Finds, NonZero, finds, short-before, same-set}
 use Rattle.bits.specs.Differences.{Ascending}
 use Rattle.bits.proofs.Places.{member-at, ascending-same}
 use Rattle.field.specs.Sum as Sum
-use Rattle.field.specs.Product.{Listed, _⊗⟨_⟩_}
+use Rattle.field.specs.Product.{IsField, _⊗⟨_⟩_}
 use Rattle.field.specs.Power.{a, nOf, power}
 use Rattle.field.proofs.PowerLaws.{power-bound, power-mul, power-add}
 use Rattle.field.proofs.Order.{power-nonzero, power-injective, a-order}
@@ -37,7 +37,8 @@ use Rattle.locate.proofs.TrialLaws.{value-zero, value-suc, zeros-member
 
 -- two rows that agree at the even places, and whose odd places are squares of the places half as far, agree
 
-halves : (m : ℕ) (f g : ℕ → ℕ) (t : ℕ) → ((i : ℕ) → i < t → f (2 * i) ≡ g (2 * i)) → ((i : ℕ) → i < t → f (2 * i + 1) ≡ f i ⊗⟨ m ⟩ f i) → ((i : ℕ) → i < t → g (2 * i + 1) ≡ g i ⊗⟨ m ⟩ g i)
+halves : (m : ℕ) (f g : ℕ → ℕ) (t : ℕ) → ((i : ℕ) → i < t → f (2 * i) ≡ g (2 * i))
+    → ((i : ℕ) → i < t → f (2 * i + 1) ≡ f i ⊗⟨ m ⟩ f i) → ((i : ℕ) → i < t → g (2 * i + 1) ≡ g i ⊗⟨ m ⟩ g i)
     → (n j : ℕ) → j < n → j < 2 * t → f j ≡ g j
 halves m f g t e p q zero j h k = absurd (omega arith)
 halves m f g t e p q (suc n) j h k = pick (λ i l b. halves m f g t e p q n i l b) (ℕ-discrete (j % 2) 0)
@@ -50,7 +51,7 @@ halves m f g t e p q (suc n) j h k = pick (λ i l b. halves m f g t e p q n i l 
         let d : j ≡ 2 * (j / 2) + 1 = omega arith in
         ap f d ∙ p (j / 2) (omega arith) ∙ ap (λ x. x ⊗⟨ m ⟩ x) (ih (j / 2) (omega arith) (omega arith)) ∙ sym (q (j / 2) (omega arith)) ∙ ap g (sym d)
 
-module _ {m : ℕ} (L : Listed m) where
+module _ {m : ℕ} (L : IsField m) where
   abbrev F : Field
   F = field m L
 
@@ -124,16 +125,20 @@ module _ {m : ℕ} (L : Listed m) where
   -- place p is tried at the inverse of its power
 
   inverse-point : (p : ℕ) → p < nOf m → point (nOf m - p) ≡ F .inverse (point p)
-  inverse-point p h = inverse-unique F (point p) (point (nOf m - p)) (λ z. power-nonzero L p (ap (λ x. x .0) z)) (el-path (sym (power-add L a p (nOf m - p)) ∙ ap (power m a) whole ∙ a-order L))
+  inverse-point p h =
+      inverse-unique F (point p) (point (nOf m - p)) (λ z. power-nonzero L p (ap (λ x. x .0) z))
+      (el-path (sym (power-add L a p (nOf m - p)) ∙ ap (power m a) whole ∙ a-order L))
     where
       whole : p + (nOf m - p) ≡ nOf m
       whole = omega arith
 
-  value-number : (c : ℕ) (p : Series K) (sigma : List ℕ) (k : ℕ) (y : K .El) → ((i : ℕ) → i < c → getD sigma (k + i) 0 ≡ (p i) .0) → valueFrom m (y .0) sigma k c ≡ (evaluate K c p y) .0
+  value-number : (c : ℕ) (p : Series K) (sigma : List ℕ) (k : ℕ) (y : K .El) → ((i : ℕ) → i < c → getD sigma (k + i) 0 ≡ (p i) .0)
+      → valueFrom m (y .0) sigma k c ≡ (evaluate K c p y) .0
   value-number zero p sigma k y e = value-zero m (y .0) sigma k ∙ ap (λ x. x .0) (sym (evaluate-zero K p y))
   value-number (suc c) p sigma k y e =
       value-suc m (y .0) sigma k c
-      ∙ ap₂ (λ u v. Sum._⊕_ u (y .0 ⊗⟨ m ⟩ v)) (ap (λ n. getD sigma n 0) (sym (add-zero k)) ∙ e zero (omega arith)) (value-number c (tail K p) sigma (suc k) y (λ i h. ap (λ n. getD sigma n 0) (later i) ∙ e (suc i) (omega arith)))
+      ∙ ap₂ (λ u v. Sum._⊕_ u (y .0 ⊗⟨ m ⟩ v)) (ap (λ n. getD sigma n 0) (sym (add-zero k)) ∙ e zero (omega arith))
+      (value-number c (tail K p) sigma (suc k) y (λ i h. ap (λ n. getD sigma n 0) (later i) ∙ e (suc i) (omega arith)))
       ∙ ap (λ x. x .0) (sym (evaluate-suc K c p y))
     where
       later : (i : ℕ) → suc k + i ≡ k + suc i
@@ -154,7 +159,8 @@ module _ {m : ℕ} (L : Listed m) where
   agree {t} {sums} {all} {ps} q s j h =
       el-path
       (series-at L all j (q .below j h)
-      ∙ halves m (λ i. getD all i 0) (λ i. sumOver m (suc i) ps) t (λ i k. q .odd i k ∙ sym (located-even s i k)) (q .even) (λ i k. located-odd ps i) (suc j) j (omega arith) h
+      ∙ halves m (λ i. getD all i 0) (λ i. sumOver m (suc i) ps) t (λ i k. q .odd i k ∙ sym (located-even s i k)) (q .even)
+      (λ i k. located-odd ps i) (suc j) j (omega arith) h
       ∙ sym (points-sum ps j))
 
   few-points : {t : ℕ} {sums ps : List ℕ} → Located m t sums ps → 2 * length (points ps) ≤ 2 * t
@@ -163,18 +169,22 @@ module _ {m : ℕ} (L : Listed m) where
   same-members : {t : ℕ} {sums ps qs : List ℕ} → Located m t sums ps → Located m t sums qs → (p : ℕ) → List·Memᴰ p ps → List·Memᴰ p qs
   same-members {t} {sums} {ps} {qs} s u p k =
       place-member p qs (s .below p k) (u .below)
-      (same-set F (points ps) (points qs) (2 * t) (points-distinct ps (s .ascending) (s .below)) (points-distinct qs (u .ascending) (u .below)) (points-nonzero ps) (points-nonzero qs) (few-points s) (few-points u)
-      (λ j h. el-path (points-sum ps j ∙ halves m (λ i. sumOver m (suc i) ps) (λ i. sumOver m (suc i) qs) t (λ i l. located-even s i l ∙ sym (located-even u i l)) (λ i l. located-odd ps i) (λ i l. located-odd qs i) (suc j) j (omega arith) h ∙ sym (points-sum qs j)))
+      (same-set F (points ps) (points qs) (2 * t) (points-distinct ps (s .ascending) (s .below))
+      (points-distinct qs (u .ascending) (u .below)) (points-nonzero ps) (points-nonzero qs) (few-points s) (few-points u)
+      (λ j h. el-path
+      (points-sum ps j
+      ∙ halves m (λ i. sumOver m (suc i) ps) (λ i. sumOver m (suc i) qs) t (λ i l. located-even s i l ∙ sym (located-even u i l))
+      (λ i l. located-odd ps i) (λ i l. located-odd qs i) (suc j) j (omega arith) h ∙ sym (points-sum qs j)))
       (point p) (point-member ps k))
 
 -- there is at most one set of places with given sums
-pub one-set : {m t : ℕ} {sums ps qs : List ℕ} → Listed m → Located m t sums ps → Located m t sums qs → ps ≡ qs
+pub one-set : {m t : ℕ} {sums ps qs : List ℕ} → IsField m → Located m t sums ps → Located m t sums qs → ps ≡ qs
 one-set {ps = ps} {qs} L s u = ascending-same ps qs (s .ascending) (u .ascending) (same-members L s u) (same-members L u s)
 
 -- what the run and the trial say of a located list
 
 module _ {m t l : ℕ} {sums sigma ps : List ℕ} (s : SolvedFor m t sums l sigma) (u : Located m t sums ps) where
-  abbrev L₁ : Listed m
+  abbrev L₁ : IsField m
   L₁ = s .solved .listed
 
   abbrev G : Field
@@ -205,10 +215,13 @@ module _ {m t l : ℕ} {sums sigma ps : List ℕ} (s : SolvedFor m t sums l sigm
     value-is : (p : ℕ) → p < nOf m → tried m sigma (l + 1) p ≡ (evaluate R d (run G S (2 * t) .σ) (G .inverse (point L₁ p))) .0
     value-is p k =
         ap (valueFrom m (power m a (nOf m - p)) sigma 0) (add-one l)
-        ∙ value-number L₁ (suc l) (run G S (2 * t) .σ) sigma 0 (point L₁ (nOf m - p)) (λ i b. ap (λ n. getD sigma n 0) (none i) ∙ s .solved .short h .1 i (omega arith))
+        ∙ value-number L₁ (suc l) (run G S (2 * t) .σ) sigma 0 (point L₁ (nOf m - p))
+        (λ i b. ap (λ n. getD sigma n 0) (none i) ∙ s .solved .short h .1 i (omega arith))
         ∙ ap (λ x. x .0)
         (ap (evaluate R (suc l) (run G S (2 * t) .σ)) (inverse-point L₁ p k)
-        ∙ sym (evaluate-past R (suc l) d (run G S (2 * t) .σ) (G .inverse (point L₁ p)) (λ n b. run-degree G S (2 * t) n (omega (arith, s .solved .short h .0))) (omega arith)))
+        ∙ sym
+        (evaluate-past R (suc l) d (run G S (2 * t) .σ) (G .inverse (point L₁ p))
+        (λ n b. run-degree G S (2 * t) n (omega (arith, s .solved .short h .0))) (omega arith)))
       where
         none : (i : ℕ) → 0 + i ≡ i
         none i = omega arith
@@ -224,23 +237,27 @@ module _ {m t l : ℕ} {sums sigma ps : List ℕ} (s : SolvedFor m t sums l sigm
 
         back : (p : ℕ) → List·Memᴰ p ps → List·Memᴰ p (zeros m sigma (l + 1) (nOf m))
         back p k =
-            member-zeros m sigma (l + 1) (nOf m) p (u .below p k) (value-is p (u .below p k) ∙ ap (λ x. x .0) (found .rooted (point L₁ p) (point-member L₁ ps k) d (omega arith)))
+            member-zeros m sigma (l + 1) (nOf m) p (u .below p k)
+            (value-is p (u .below p k) ∙ ap (λ x. x .0) (found .rooted (point L₁ p) (point-member L₁ ps k) d (omega arith)))
 
     pub not-many : {count : ℕ} {places : List ℕ} → Tried m t sigma (l + 1) count places → t < count → ⊥
     not-many w k = omega (arith, w .most k, ap length zeros-are, u .few)
 
-    pub not-other : {count : ℕ} {r : Bool} {places : List ℕ} → Tried m t sigma (l + 1) count places → count ≤ t → Agrees m t (take count places) sums r → r ≡ false → ⊥
+    pub not-other : {count : ℕ} {r : Bool} {places : List ℕ} → Tried m t sigma (l + 1) count places → count ≤ t
+        → Agrees m t (take count places) sums r → r ≡ false → ⊥
     not-other w k c e = c .no e (λ i h. ap (sumOver m (2 * i + 1)) (w .all-of k ∙ zeros-are) ∙ u .same i h)
 
 -- what is found are places
-pub found-below : {m t c count : ℕ} {sigma places : List ℕ} → Tried m t sigma c count places → count ≤ t → t ≤ length places → (i : ℕ) → i < count → getD places i 0 < nOf m
+pub found-below : {m t c count : ℕ} {sigma places : List ℕ} → Tried m t sigma c count places → count ≤ t → t ≤ length places
+    → (i : ℕ) → i < count → getD places i 0 < nOf m
 found-below {m} {c = c} {count} {sigma} {places} w h l i k = zeros-member m sigma c (nOf m) (getD places i 0) (rw (w .all-of h) at here) .0
   where
     here : List·Memᴰ (getD places i 0) (take count places)
     here = rw (sym (getD-take count places i 0 k)) (member-at (take count places) i (omega (arith, length-take-le count places (omega arith))))
 
 -- places whose sums agree are located
-pub located : {m t c count : ℕ} {r : Bool} {sums sigma places : List ℕ} → Tried m t sigma c count places → count ≤ t → t ≤ length places → Agrees m t (take count places) sums r → r ≡ true → Located m t sums (take count places)
+pub located : {m t c count : ℕ} {r : Bool} {sums sigma places : List ℕ} → Tried m t sigma c count places → count ≤ t
+    → t ≤ length places → Agrees m t (take count places) sums r → r ≡ true → Located m t sums (take count places)
 located {m} {t} {c} {count} {r} {sums} {sigma} {places} w h l g e =
     record {
       ascending = rw (w .all-of h) (zeros-ascending m sigma c (nOf m));

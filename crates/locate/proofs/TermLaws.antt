@@ -8,7 +8,7 @@ use lib.ListN.{getD}
 use Rattle.entries.specs.Entries.{Filled}
 use Rattle.entries.proofs.FillLaws.{fill-as}
 use Rattle.field.specs.Sum.{_⊕_}
-use Rattle.field.specs.Product.{Listed, _⊗⟨_⟩_}
+use Rattle.field.specs.Product.{IsField, _⊗⟨_⟩_}
 use Rattle.field.specs.Power.{a, nOf, power}
 use Rattle.walks.specs.Multiples.{plusMultiple}
 use Rattle.field.proofs.ProductLaws.{product-comm, product-assoc, product-one, one-product}
@@ -16,7 +16,7 @@ use Rattle.field.proofs.PowerLaws.{one-power, power-add, power-mul, product-pow
 use Rattle.field.proofs.Order.{eight-bound, power-mod, a-order}
 use Rattle.locate.specs.Work.{plusTerm}
 
-module _ {m : ℕ} (L : Listed m) where
+module _ {m : ℕ} (L : IsField m) where
   -- a step down by j is a step up by n - j, and i steps down are a step of n - i
   term-power : (j i : ℕ) → i < nOf m → power m a ((nOf m - j % nOf m) * i) ≡ power m (power m a (nOf m - i)) j
   term-power j i h =
@@ -55,5 +55,9 @@ module _ {m : ℕ} (L : Listed m) where
           ∙ ap (λ z. power m z j) (sym (power-add L a i (nOf m - i)) ∙ ap (power m a) d ∙ a-order L)
           ∙ one-power L j
 
-  pub term-added : {n : ℕ} {before after : List ℕ} (s j : ℕ) → n ≡ nOf m → Filled (plusMultiple m s (n - j % n) before) n before after → Filled (plusTerm m s j before) (nOf m) before after
-  term-added {n} {before} {after} s j is u = fill-as (rw is at u) (λ i h. ap (λ z. getD before i 0 ⊕ z) (ap (λ z. s ⊗⟨ m ⟩ z) (term-power j i h) ∙ product-comm m s (power m (power m a (nOf m - i)) j)))
+  pub term-added : {n : ℕ} {before after : List ℕ} (s j : ℕ) → n ≡ nOf m
+      → Filled (plusMultiple m s (n - j % n) before) n before after → Filled (plusTerm m s j before) (nOf m) before after
+  term-added {n} {before} {after} s j is u =
+      fill-as (rw is at u)
+      (λ i h. ap (λ z. getD before i 0 ⊕ z)
+      (ap (λ z. s ⊗⟨ m ⟩ z) (term-power j i h) ∙ product-comm m s (power m (power m a (nOf m - i)) j)))

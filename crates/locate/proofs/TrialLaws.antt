@@ -2,7 +2,8 @@
 use mathlib.Core.Path.{_≡_, _∙_, refl, sym, ap, ap₂}
 use mathlib.Core.Logic.{_⊎_, inl, inr}
 use mathlib.Core.Bool.{Bool, cond}
-use mathlib.Core.List.{List, [], _∷_, _++_, List·Memᴰ, List·Memᴰ·head, List·Memᴰ·tail, List·Memᴰ·not-nil, List·Memᴰ·append-cases, List·Memᴰ·eq-of-singleton, Memᴰ·append-left, Memᴰ·append-right}
+use mathlib.Core.List.{List, [], _∷_, _++_, List·Memᴰ, List·Memᴰ·head, List·Memᴰ·tail, List·Memᴰ·not-nil, List·Memᴰ·append-cases}
+use mathlib.Core.List.{List·Memᴰ·eq-of-singleton, Memᴰ·append-left, Memᴰ·append-right}
 use Prim.Native.Nat.{ℕ, zero, suc, _+_, _-_, _^_, _≤_, _<_}
 use native.Mathlib.Numerals.{add-one}
 use native.Mathlib.Decide.{ℕ-discrete}
@@ -14,7 +15,7 @@ use lib.ListN.{length, getD, take, set, length-append, length-set}
 use lib.Seq.{take-suc-set}
 use Rattle.bits.specs.Differences.{Ascending}
 use Rattle.field.specs.Sum.{_⊕_}
-use Rattle.field.specs.Product.{Listed, _⊗⟨_⟩_}
+use Rattle.field.specs.Product.{IsField, _⊗⟨_⟩_}
 use Rattle.field.specs.Power.{a, nOf, power}
 use Rattle.field.proofs.SumLaws.{sum-comm, sum-assoc}
 use Rattle.field.proofs.ProductLaws.{product-zero, product-assoc, product-over, one-product}
@@ -35,13 +36,15 @@ unfolding valueFrom
 value-suc m y sigma k c = refl
 
 -- one coefficient more, its term added at the end
-value-more : {m : ℕ} → Listed m → (y : ℕ) (sigma : List ℕ) (c k : ℕ) → getD sigma (k + c) 0 < 2 ^ m → valueFrom m y sigma k (suc c) ≡ valueFrom m y sigma k c ⊕ power m y c ⊗⟨ m ⟩ getD sigma (k + c) 0
+value-more : {m : ℕ} → IsField m → (y : ℕ) (sigma : List ℕ) (c k : ℕ) → getD sigma (k + c) 0 < 2 ^ m
+    → valueFrom m y sigma k (suc c) ≡ valueFrom m y sigma k c ⊕ power m y c ⊗⟨ m ⟩ getD sigma (k + c) 0
 value-more {m} L y sigma zero k h =
     value-suc m y sigma k 0
     ∙ ap₂ (λ u v. u ⊕ y ⊗⟨ m ⟩ v) (ap (λ n. getD sigma n 0) (sym (add-zero k))) (value-zero m y sigma (suc k))
     ∙ ap (λ u. getD sigma (k + 0) 0 ⊕ u) (product-zero m y)
     ∙ sum-comm (getD sigma (k + 0) 0) 0
-    ∙ ap₂ (λ u v. u ⊕ v) (sym (value-zero m y sigma k)) (sym (ap (λ u. u ⊗⟨ m ⟩ getD sigma (k + 0) 0) (power-zero m y) ∙ one-product L (getD sigma (k + 0) 0) h))
+    ∙ ap₂ (λ u v. u ⊕ v) (sym (value-zero m y sigma k))
+    (sym (ap (λ u. u ⊗⟨ m ⟩ getD sigma (k + 0) 0) (power-zero m y) ∙ one-product L (getD sigma (k + 0) 0) h))
 value-more {m} L y sigma (suc c) k h =
     value-suc m y sigma k (suc c)
     ∙ ap (λ u. getD sigma k 0 ⊕ y ⊗⟨ m ⟩ u) (value-more L y sigma c (suc k) (rw next h) ∙ ap (λ n. rest ⊕ power m y c ⊗⟨ m ⟩ getD sigma n 0) next)
@@ -63,14 +66,15 @@ pub record Valuing (m : ℕ) (sigma : List ℕ) (count : ℕ) (before after : Li
   pub within : j ≤ count
   pub filled : Filled (tried m sigma j) (nOf m) before after
 
-pub valuing-start : {m n : ℕ} {first before : List ℕ} (sigma : List ℕ) (count : ℕ) → n ≡ nOf m → Filled nothing n first before → Valuing m sigma count before before 0
+pub valuing-start : {m n : ℕ} {first before : List ℕ} (sigma : List ℕ) (count : ℕ) → n ≡ nOf m → Filled nothing n first before
+    → Valuing m sigma count before before 0
 valuing-start {m} {n} {before = before} sigma count is s =
     record {
       within = omega arith;
       filled = fill-from _ (nOf m) before (λ i h. s .holds i (omega arith) ∙ sym (value-zero m (power m a (nOf m - i)) sigma 0));
     }
 
-pub valuing-next : {m count j : ℕ} {sigma before middle after : List ℕ} → Listed m → Valuing m sigma count before middle j → j < count → getD sigma j 0 < 2 ^ m
+pub valuing-next : {m count j : ℕ} {sigma before middle after : List ℕ} → IsField m → Valuing m sigma count before middle j → j < count → getD sigma j 0 < 2 ^ m
     → Filled (plusTerm m (getD sigma j 0) j middle) (nOf m) middle after → Valuing m sigma count before after (j + 1)
 valuing-next {m} {count} {j} {sigma} L w h b u =
     record {
@@ -84,7 +88,8 @@ valuing-next {m} {count} {j} {sigma} L w h b u =
     none : 0 + j ≡ j
     none = omega arith
 
-pub valuing-done : {m n count j : ℕ} {sigma first before after : List ℕ} → n ≡ nOf m → Filled nothing n first before → Valuing m sigma count before after j → count ≤ j → Filled (tried m sigma count) (nOf m) first after
+pub valuing-done : {m n count j : ℕ} {sigma first before after : List ℕ} → n ≡ nOf m → Filled nothing n first before
+    → Valuing m sigma count before after j → count ≤ j → Filled (tried m sigma count) (nOf m) first after
 valuing-done {m} {n} {count} {j} {sigma} is s w h =
     record {
       same = w .filled .same ∙ s .same;
@@ -124,7 +129,8 @@ module _ (m : ℕ) (sigma : List ℕ) (c : ℕ) where
   zeros-miss i n = zeros-suc i ∙ ap (λ b. cond b (zeros m sigma c i ++ (i ∷ [])) (zeros m sigma c i)) (ne-eqb (tried m sigma c i) 0 n)
 
   -- one place more
-  zeros-cases : (P : List ℕ → Type 0) (i : ℕ) → (tried m sigma c i ≡ 0 → P (zeros m sigma c i ++ (i ∷ []))) → ((tried m sigma c i ≡ 0 → ⊥) → P (zeros m sigma c i)) → P (zeros m sigma c (suc i))
+  zeros-cases : (P : List ℕ → Type 0) (i : ℕ) → (tried m sigma c i ≡ 0 → P (zeros m sigma c i ++ (i ∷ [])))
+      → ((tried m sigma c i ≡ 0 → ⊥) → P (zeros m sigma c i)) → P (zeros m sigma c (suc i))
   zeros-cases P i h k = pick (ℕ-discrete (tried m sigma c i) 0)
     where
       pick : Dec (tried m sigma c i ≡ 0) → P (zeros m sigma c (suc i))
@@ -135,23 +141,30 @@ module _ (m : ℕ) (sigma : List ℕ) (c : ℕ) where
   zeros-grow i zero = rw (add-zero i) (omega arith)
   zeros-grow i (suc d) =
       let g = zeros-grow i d in
-      rw (add-suc i d) (zeros-cases (λ l. length (zeros m sigma c i) ≤ length l) (i + d) (λ e. omega (arith, length-append (zeros m sigma c (i + d)) ((i + d) ∷ []))) (λ n. g))
+      rw (add-suc i d)
+      (zeros-cases (λ l. length (zeros m sigma c i) ≤ length l) (i + d)
+      (λ e. omega (arith, length-append (zeros m sigma c (i + d)) ((i + d) ∷ []))) (λ n. g))
 
   -- a place is among the zeros below i exactly if it is below i and its trial is zero
   pub zeros-member : (i p : ℕ) → List·Memᴰ p (zeros m sigma c i) → (p < i) × (tried m sigma c p ≡ 0)
   zeros-member zero p k = absurd (List·Memᴰ·not-nil (rw zeros-zero at k))
-  zeros-member (suc i) p k₀ = zeros-cases (λ l. List·Memᴰ p l → (p < suc i) × (tried m sigma c p ≡ 0)) i (λ e k. last (zeros-member i p) e (List·Memᴰ·append-cases (zeros m sigma c i) k)) (λ n k. weaken (zeros-member i p k)) k₀
+  zeros-member (suc i) p k₀ =
+      zeros-cases (λ l. List·Memᴰ p l → (p < suc i) × (tried m sigma c p ≡ 0)) i
+      (λ e k. last (zeros-member i p) e (List·Memᴰ·append-cases (zeros m sigma c i) k)) (λ n k. weaken (zeros-member i p k)) k₀
     where
       weaken : (p < i) × (tried m sigma c p ≡ 0) → (p < suc i) × (tried m sigma c p ≡ 0)
       weaken r = (omega arith, r .1)
 
-      last : (List·Memᴰ p (zeros m sigma c i) → (p < i) × (tried m sigma c p ≡ 0)) → tried m sigma c i ≡ 0 → List·Memᴰ p (zeros m sigma c i) ⊎ List·Memᴰ p (i ∷ []) → (p < suc i) × (tried m sigma c p ≡ 0)
+      last : (List·Memᴰ p (zeros m sigma c i) → (p < i) × (tried m sigma c p ≡ 0)) → tried m sigma c i ≡ 0
+          → List·Memᴰ p (zeros m sigma c i) ⊎ List·Memᴰ p (i ∷ []) → (p < suc i) × (tried m sigma c p ≡ 0)
       last ih e (inl q) = weaken (ih q)
       last ih e (inr q) = let z : p ≡ i = List·Memᴰ·eq-of-singleton q in (omega arith, ap (tried m sigma c) z ∙ e)
 
   pub member-zeros : (i p : ℕ) → p < i → tried m sigma c p ≡ 0 → List·Memᴰ p (zeros m sigma c i)
   member-zeros zero p h e = absurd (omega arith)
-  member-zeros (suc i) p h e = zeros-cases (λ l. List·Memᴰ p l) i (λ z. here (λ l. member-zeros i p l e) (ℕ-discrete p i)) (λ n. there n (λ l. member-zeros i p l e) (ℕ-discrete p i))
+  member-zeros (suc i) p h e =
+      zeros-cases (λ l. List·Memᴰ p l) i (λ z. here (λ l. member-zeros i p l e) (ℕ-discrete p i))
+      (λ n. there n (λ l. member-zeros i p l e) (ℕ-discrete p i))
     where
       here : (p < i → List·Memᴰ p (zeros m sigma c i)) → Dec (p ≡ i) → List·Memᴰ p (zeros m sigma c i ++ (i ∷ []))
       here ih (yes q) = Memᴰ·append-right (zeros m sigma c i) (List·Memᴰ·head q)
@@ -194,7 +207,8 @@ trying-start m t sigma c n places =
       noted = sym (zeros-zero m sigma c);
     }
 
-module _ {m t c n found i v count : ℕ} {sigma first places after : List ℕ} (s : Trying m t sigma c n first places found i) (is : n ≡ nOf m) (h : i < n) (e : v ≡ tried m sigma c i) (o : NotedOne v i t found places count after) where
+module _ {m t c n found i v count : ℕ} {sigma first places after : List ℕ} (s : Trying m t sigma c n first places found i)
+    (is : n ≡ nOf m) (h : i < n) (e : v ≡ tried m sigma c i) (o : NotedOne v i t found places count after) where
   -- the list after this place, and its length
   trying-list : count ≤ t → (length (zeros m sigma c (suc i)) ≡ count) × (take count after ≡ zeros m sigma c (suc i))
   trying-list l = pick (ℕ-discrete v 0)
@@ -229,17 +243,20 @@ module _ {m t c n found i v count : ℕ} {sigma first places after : List ℕ} (
       pick : Dec (v ≡ 0) → t < length (zeros m sigma c (nOf m))
       pick (yes z) =
           let q = o .hit z in
-          let w : length (zeros m sigma c (suc i)) ≡ found + 1 = ap length (zeros-hit m sigma c i (sym e ∙ z)) ∙ length-append (zeros m sigma c i) (i ∷ []) ∙ ap (λ k. k + 1) (s .counted) in
+          let w : length (zeros m sigma c (suc i)) ≡ found + 1 =
+          ap length (zeros-hit m sigma c i (sym e ∙ z)) ∙ length-append (zeros m sigma c i) (i ∷ []) ∙ ap (λ k. k + 1) (s .counted) in
           let d : suc i + (nOf m - suc i) ≡ nOf m = omega arith in
           let g : length (zeros m sigma c (suc i)) ≤ length (zeros m sigma c (nOf m)) = rw d at (zeros-grow m sigma c (suc i) (nOf m - suc i)) in
           omega (arith, q .0)
       pick (no n) = absurd (omega (arith, o .miss n .0, s .room))
 
-pub trying-passed : {m t c n found i v count : ℕ} {sigma first places after : List ℕ} → Trying m t sigma c n first places found i → n ≡ nOf m → i < n → v ≡ tried m sigma c i
+pub trying-passed : {m t c n found i v count : ℕ} {sigma first places after : List ℕ} → Trying m t sigma c n first places found i
+    → n ≡ nOf m → i < n → v ≡ tried m sigma c i
     → NotedOne v i t found places count after → t < count → Tried m t sigma c count after
 trying-passed s is h e o l = record { all-of = λ k. absurd (omega arith); most = λ k. trying-over s is h e o l }
 
-pub trying-done : {m t c n found i : ℕ} {sigma first places : List ℕ} → Trying m t sigma c n first places found i → n ≡ nOf m → n ≤ i → Tried m t sigma c found places
+pub trying-done : {m t c n found i : ℕ} {sigma first places : List ℕ} → Trying m t sigma c n first places found i → n ≡ nOf m
+    → n ≤ i → Tried m t sigma c found places
 trying-done {m} {t} {c} {n} {i = i} {sigma} s is h = record { all-of = λ k. s .noted ∙ ap (zeros m sigma c) end; most = λ k. absurd (omega (arith, s .room)) }
   where
     end : i ≡ nOf m

@@ -6,6 +6,7 @@ use lib.ListN.{length, getD, take}
 use Rattle.bits.specs.Differences.{Ascending}
 use Rattle.field.specs.Power.{nOf}
 use Rattle.codes.specs.Sums.{sumOver}
+use Rattle.sums.specs.Rows.{OddSums}
 use Rattle.locate.specs.declared.Search.{Search}
 use Rattle.locate.specs.declared.Found.{Found}
 use Rattle.locate.specs.declared.Found.the-variants.{Places, Nothing}
@@ -24,3 +25,9 @@ Tells m t sums Nothing places = (ps : List ℕ) → Located m t sums ps → ⊥
 
 pub record Searched (m t : ℕ) (sums : List ℕ) (s : Search) : Type 0 where
   pub tells : Tells m t sums (s .answer) (s .places)
+
+-- the same for a word: the search answers for its own odd sums
+pub record WordSearched (m t : ℕ) (word : List ℕ) (s : Search) : Type 0 where
+  pub sums : List ℕ
+  pub of-word : OddSums m t word sums
+  pub searched : Searched m t sums s

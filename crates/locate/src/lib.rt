@@ -1,13 +1,15 @@
-// From the sums of a word to its wrong places.
+// From a word or its kept sums to the wrong places, with the powers of a made for the one call that needs them.
 
 ghost use mathlib.Core.Path.{_≡_};
 ghost use Prim.Native.Nat.{ℕ, _+_, _^_, _≤_, _<_};
 ghost use lib.ListN.{length, getD, take, replicate};
+ghost use Rattle.bits.specs.Bits.{AreBits};
 ghost use Rattle.entries.specs.Entries.{Filled};
-ghost use Rattle.field.specs.Product.{Listed};
+ghost use Rattle.field.specs.Product.{IsField};
 ghost use Rattle.field.specs.Power.{nOf};
 ghost use Rattle.field.specs.Tables.{Powers, Tables};
-ghost use Rattle.locate.specs.Located.{Searched};
+ghost use Rattle.sums.specs.Rows.{OddSums, Vanish};
+ghost use Rattle.locate.specs.Located.{Searched, WordSearched};
 ghost use Rattle.locate.specs.Work.{plusTerm, tried, NotedOne, Tried, Agrees, Sought};
 
 // How many places were found, or that no set of places has these sums.
@@ -28,7 +30,8 @@ fn values_space() -> [u16; 1023]
     [0; 1023]
 }
 
-// To the values of all places the term with coefficient s at place j is added. Place i is tried at a^(n-i), so from one place to the next the term is multiplied by a^(n-j).
+// To the values of all places the term with coefficient s at place j is added. Place i is tried at a^(n-i), so from one place to the next
+// the term is multiplied by a^(n-j).
 fn add_term(m: usize, powers: &[u16], logs: &[u16], s: u16, j: usize, values: &mut [u16])
     requires { ⌜ (Tables m (now powers) (now logs)) × (s < 2 ^ m) × (nOf m ≤ length (now values)) ⌝ }
     ensures { λ _. ⌜ Filled (plusTerm m s j (now (values .entry))) (nOf m) (now (values .entry)) (now (values .exit)) ⌝ }
@@ -48,7 +51,8 @@ fn all_values(
     count: usize,
     values: &mut [u16],
 )
-    requires { ⌜ (Tables m (now powers) (now logs)) × (count ≤ length (now sigma)) × ((i : ℕ) → i < count → getD (now sigma) i 0 < 2 ^ m) × (nOf m ≤ length (now values)) ⌝ }
+    requires { ⌜ (Tables m (now powers) (now logs)) × (count ≤ length (now sigma)) × ((i : ℕ) → i < count → getD (now sigma) i 0 < 2 ^ m)
+        × (nOf m ≤ length (now values)) ⌝ }
     ensures { λ _. ⌜ Filled (tried m (now (sigma .entry)) count) (nOf m) (now (values .entry)) (now (values .exit)) ⌝ }
 {
     let n = field::n_of(m);
@@ -86,7 +90,8 @@ fn try_all(
     count: usize,
     places: &mut [u16],
 ) -> usize
-    requires { ⌜ (Tables m (now powers) (now logs)) × (count ≤ length (now sigma)) × ((i : ℕ) → i < count → getD (now sigma) i 0 < 2 ^ m) × (t ≤ length (now places)) ⌝ }
+    requires { ⌜ (Tables m (now powers) (now logs)) × (count ≤ length (now sigma)) × ((i : ℕ) → i < count → getD (now sigma) i 0 < 2 ^ m)
+        × (t ≤ length (now places)) ⌝ }
     ensures { λ found. ⌜ Tried m t (now (sigma .entry)) count found (now (places .exit)) ⌝ }
 {
     let mut values = values_space();
@@ -107,7 +112,8 @@ fn try_all(
 
 // Whether the sums of the places are the given ones.
 fn compare(m: usize, powers: &[u16], t: usize, places: &[u16], count: usize, sums: &[u16]) -> bool
-    requires { ⌜ (Listed m) × (Powers m (now powers)) × (t ≤ 255) × (count ≤ length (now places)) × ((i : ℕ) → i < count → getD (now places) i 0 < nOf m) × (t ≤ length (now sums)) ⌝ }
+    requires { ⌜ (IsField m) × (Powers m (now powers)) × (t ≤ 255) × (count ≤ length (now places))
+        × ((i : ℕ) → i < count → getD (now places) i 0 < nOf m) × (t ≤ length (now sums)) ⌝ }
     ensures { λ r. ⌜ Agrees m t (take count (now (places .entry))) (now (sums .entry)) r ⌝ }
 {
     let mut own = sums::space();
@@ -116,7 +122,7 @@ fn compare(m: usize, powers: &[u16], t: usize, places: &[u16], count: usize, sum
 }
 
 // Writes the places down, and answers how many there are, or something above t where there are none such.
-fn find(
+fn find_places(
     m: usize,
     powers: &[u16],
     logs: &[u16],
@@ -125,7 +131,8 @@ fn find(
     sigma: &mut [u16],
     places: &mut [u16],
 ) -> usize
-    requires { ⌜ (Tables m (now powers) (now logs)) × (t ≤ 255) × (t ≤ length (now sums)) × ((i : ℕ) → i < t → getD (now sums) i 0 < 2 ^ m) × (now sigma ≡ replicate 257 0) × (t ≤ length (now places)) ⌝ }
+    requires { ⌜ (Tables m (now powers) (now logs)) × (t ≤ 255) × (t ≤ length (now sums)) × ((i : ℕ) → i < t → getD (now sums) i 0 < 2 ^ m)
+        × (now sigma ≡ replicate 257 0) × (t ≤ length (now places)) ⌝ }
     ensures { λ found. ⌜ Sought m t (now (sums .entry)) found (now (places .exit)) ⌝ }
 {
     let l = key::solve(m, powers, logs, t, sums, sigma);
@@ -150,8 +157,8 @@ fn places_space() -> [u16; 255]
 }
 
 // The places whose odd sums, the first t, are the given ones: at most t places, or none such. Logarithms are made only where something is wrong.
-pub fn locate(m: usize, t: usize, powers: &[u16], sums: &[u16]) -> Search
-    requires { ⌜ (Listed m) × (Powers m (now powers)) × (t ≤ 255) × (t ≤ length (now sums)) × ((i : ℕ) → i < t → getD (now sums) i 0 < 2 ^ m) ⌝ }
+fn locate(m: usize, t: usize, powers: &[u16], sums: &[u16]) -> Search
+    requires { ⌜ (IsField m) × (Powers m (now powers)) × (t ≤ 255) × (t ≤ length (now sums)) × ((i : ℕ) → i < t → getD (now sums) i 0 < 2 ^ m) ⌝ }
     ensures { λ r. ⌜ Searched m t (now (sums .entry)) r ⌝ }
 {
     let mut places = places_space();
@@ -165,7 +172,7 @@ pub fn locate(m: usize, t: usize, powers: &[u16], sums: &[u16]) -> Search
     let mut logs = field::logs_space();
     field::fill_logs(m, powers, &mut logs);
     let mut sigma = key::space();
-    let found = find(m, powers, &logs, t, sums, &mut sigma, &mut places);
+    let found = find_places(m, powers, &logs, t, sums, &mut sigma, &mut places);
     if t < found {
         return Search {
             answer: Found::Nothing,
@@ -176,4 +183,45 @@ pub fn locate(m: usize, t: usize, powers: &[u16], sums: &[u16]) -> Search
         answer: Found::Places(found),
         places,
     }
+}
+
+// S_1, S_3, .. S_(2t-1) of a word, then zeros.
+pub fn odd_sums(m: usize, t: usize, word: &[u8]) -> [u16; 255]
+    requires { ⌜ IsField m × AreBits (now word) × (length (now word) ≡ nOf m) × (t ≤ 255) ⌝ }
+    ensures { λ r. ⌜ OddSums m t (now (word .entry)) r ⌝ }
+{
+    let mut powers = field::powers_space();
+    field::fill_powers(m, &mut powers);
+    sums::odd_sums(m, t, &powers, word)
+}
+
+// Whether S_1, S_3, .. S_(2t-1) of a word are all 0.
+pub fn vanish(m: usize, t: usize, word: &[u8]) -> bool
+    requires { ⌜ IsField m × AreBits (now word) × (length (now word) ≡ nOf m) × (t ≤ 255) ⌝ }
+    ensures { λ r. ⌜ Vanish m t (now (word .entry)) r ⌝ }
+{
+    let mut powers = field::powers_space();
+    field::fill_powers(m, &mut powers);
+    sums::vanish(m, t, &powers, word)
+}
+
+// The places with the sums of a word.
+pub fn of_word(m: usize, t: usize, word: &[u8]) -> Search
+    requires { ⌜ IsField m × AreBits (now word) × (length (now word) ≡ nOf m) × (t ≤ 255) ⌝ }
+    ensures { λ r. ⌜ WordSearched m t (now (word .entry)) r ⌝ }
+{
+    let mut powers = field::powers_space();
+    field::fill_powers(m, &mut powers);
+    let sums = sums::odd_sums(m, t, &powers, word);
+    locate(m, t, &powers, &sums)
+}
+
+// The places with these sums.
+pub fn of_sums(m: usize, t: usize, sums: &[u16]) -> Search
+    requires { ⌜ IsField m × (t ≤ 255) × (t ≤ length (now sums)) × ((i : ℕ) → i < t → getD (now sums) i 0 < 2 ^ m) ⌝ }
+    ensures { λ r. ⌜ Searched m t (now (sums .entry)) r ⌝ }
+{
+    let mut powers = field::powers_space();
+    field::fill_powers(m, &mut powers);
+    locate(m, t, &powers, sums)
 }

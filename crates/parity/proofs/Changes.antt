@@ -26,13 +26,15 @@ changed at start word stretch room fits b c =
       within = λ i h.
           addedAt-from once start old i (omega (arith, l, z))
           ∙ ap₂ bitXor
-          (addedAt-from zeros start stretch i (omega (arith, z)) ∙ ap (λ (x : ℕ). bitXor x (getD stretch i 0)) (zeros-at 1024 (start + i)) ∙ xor-zero-l (getD stretch i 0))
+          (addedAt-from zeros start stretch i (omega (arith, z)) ∙ ap (λ (x : ℕ). bitXor x (getD stretch i 0)) (zeros-at 1024 (start + i))
+          ∙ xor-zero-l (getD stretch i 0))
           (getD-take (length stretch) (drop at word) i 0 h ∙ getD-drop at word i 0);
       below = λ i h. addedAt-before once start old i h ∙ addedAt-before zeros start stretch i h ∙ zeros-at 1024 i;
       above = λ i h. addedAt-after once start old i (omega (arith, o)) ∙ addedAt-after zeros start stretch i h ∙ zeros-at 1024 i;
     }
 
-pub message-changed : {at start : ℕ} {word stretch zeros once change : List ℕ} → at + length stretch ≤ length word → start + length stretch ≤ 1024 → AreBits word → AreBits stretch
+pub message-changed : {at start : ℕ} {word stretch zeros once change : List ℕ} → at + length stretch ≤ length word
+    → start + length stretch ≤ 1024 → AreBits word → AreBits stretch
     → zeros ≡ replicate 1024 0 → once ≡ addedAt zeros start stretch → change ≡ addedAt once start (take (at + length stretch - at) (drop at word))
     → MessageChange word at start stretch change
 message-changed {at} {start} {word} {stretch} {zeros} {once} {change} room fits b c u v e =

@@ -10,16 +10,16 @@ use Rattle.bits.specs.Bits.{AreBits, addedAt}
 use Rattle.bits.proofs.BitLaws.{bits-take, bits-addedAt, addedAt-zero, addedAt-after}
 use Rattle.bits.proofs.Turns.{paste-at}
 use Rattle.field.specs.Sum.{_⊕_}
-use Rattle.field.specs.Product.{Listed}
-use Rattle.field.specs.Power.{nOf}
+use Rattle.field.specs.Product.{IsField}
 use Rattle.field.proofs.SumLaws.{sum-self}
-use Rattle.codes.specs.Table.{RowOf, ks, ts}
+use Rattle.codes.specs.Table.{ts}
+use Rattle.codes.specs.declared.Code.{Code}
 use Rattle.codes.specs.Sums.{sumOf}
 use Rattle.codes.proofs.SumLaws.{sum-same, sum-added}
 use Rattle.codes.specs.Encoding.{Encoding}
 use Rattle.generator.specs.Generator.{Generator}
 use Rattle.generator.specs.Work.{Reduced}
-use Rattle.parity.specs.Work.{WithParity}
+use Rattle.parity.specs.Work.{MessageOf, WithParity}
 
 -- cutting off what is zero changes nothing
 cut-same : (left : List ℕ) (d : ℕ) → d ≤ length left → ((i : ℕ) → d ≤ i → getD left i 0 ≡ 0) → (i : ℕ) → getD (take d left) i 0 ≡ getD left i 0
@@ -42,7 +42,7 @@ with-parity {d} {g} {before} {left} {after} b r l h e =
     short : length (take d left) ≡ d
     short = length-take-le d left (omega (arith, l))
 
-    sums : {m : ℕ} → Listed m → (j : ℕ) → sumOf m j g ≡ 0 → sumOf m j (addedAt before 0 (take d left)) ≡ 0
+    sums : {m : ℕ} → IsField m → (j : ℕ) → sumOf m j g ≡ 0 → sumOf m j (addedAt before 0 (take d left)) ≡ 0
     sums {m} L j z =
         ap (sumOf m j) (addedAt-zero before (take d left))
         ∙ sum-added L j before (take d left) b (bits-take d (r .bits)) (omega (arith, short))
@@ -50,13 +50,15 @@ with-parity {d} {g} {before} {left} {after} b r l h e =
         ∙ sum-self (sumOf m j before)
 
 -- the word with the message on top and its parity below is the message's encoding
-pub encoded : {m row d : ℕ} {g message before word : List ℕ} → RowOf m row → d ≡ nOf m - getD ks row 0 → length message ≡ getD ks row 0
-    → before ≡ paste (replicate (nOf m) 0) d message (length message) → Generator m (getD ts row 0) d g → WithParity d g before word → length word ≡ nOf m
-    → Encoding m (getD ts row 0) (getD ks row 0) message word
-encoded {m} {row} {d} {g} {message} {before} {word} w e k b G p l =
+pub encoded : {c : Code} {g message before word : List ℕ} → MessageOf c message → before ≡ paste (replicate (c .n) 0) (c .n - c .k) message (length message)
+    → Generator (c .m) (getD ts (c .row) 0) (c .n - c .k) g → WithParity (c .n - c .k) g before word → length word ≡ c .n
+    → Encoding (c .m) (c .t) (c .k) message word
+encoded {c} {g} {message} {before} {word} M b G p l =
+    let K = M .known in
     record {
-      code-word = record { long = l; bits = p .bits; sums = λ j a b. p .sums (w .listed) j (G .sums j a b) };
+      code-word = record { long = l ∙ K .is-n; bits = p .bits; sums = λ j a b. p .sums (K .of-m .listed) j (G .sums j a (omega (arith, K .is-t))) };
       carries = λ i h.
-          ap (λ (x : ℕ). getD word (x + i) 0) (sym e) ∙ p .above (d + i) (omega arith) ∙ ap (λ (xs : List ℕ). getD xs (d + i) 0) b
-          ∙ paste-at (replicate (nOf m) 0) d message i (omega (arith, e, length-replicate {A = ℕ} (nOf m) 0)) (omega (arith, k));
+          ap (λ (x : ℕ). getD word (x - c .k + i) 0) (sym (K .is-n)) ∙ p .above (c .n - c .k + i) (omega arith)
+          ∙ ap (λ (xs : List ℕ). getD xs (c .n - c .k + i) 0) b
+          ∙ paste-at (replicate (c .n) 0) (c .n - c .k) message i (omega (arith, length-replicate {A = ℕ} (c .n) 0)) (omega (arith, M .long));
     }

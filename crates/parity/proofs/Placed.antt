@@ -3,32 +3,37 @@ use mathlib.Core.Path.{_≡_, _∙_, sym, ap, subst}
 use mathlib.Core.List.{List}
 use Prim.Native.Nat.{ℕ, _+_, _-_, _≤_}
 use native.Mathlib.Omega.{arith}
-use lib.ListN.{length, getD, replicate, length-replicate}
+use lib.ListN.{length, replicate, length-replicate}
 use lib.Seq.{paste, length-paste}
 use Rattle.bits.specs.Bits.{AreBits}
 use Rattle.bits.proofs.BitLaws.{bits-replicate}
 use Rattle.bits.proofs.Turns.{bits-paste}
-use Rattle.field.specs.Power.{nOf}
-use Rattle.field.proofs.Range.{sizes}
-use Rattle.codes.specs.Table.{RowOf, ks}
-use Rattle.codes.proofs.Rows.{row-facts}
+use Rattle.codes.specs.declared.Code.{Code}
+use Rattle.parity.specs.Work.{MessageOf}
 
 -- the word with the message placed in it
-pub record Placed (m d : ℕ) (message word : List ℕ) : Type 0 where
-  pub is : word ≡ paste (replicate (nOf m) 0) d message (length message)
+pub record Placed (c : Code) (message word : List ℕ) : Type 0 where
+  pub is : word ≡ paste (replicate (c .n) 0) (c .n - c .k) message (length message)
   pub bits : AreBits word
-  pub long : length word ≡ nOf m
-  pub fits : d ≤ nOf m
+  pub long : length word ≡ c .n
   pub small : length word ≤ 1024
 
-pub room : {m row d : ℕ} {a b : ℕ} → RowOf m row → d ≡ nOf m - getD ks row 0 → a ≡ getD ks row 0 → b ≡ nOf m → d + a ≤ b
-room w e k n = let f = row-facts w in omega (arith, f .falling, f .within)
+-- parity and message are the whole word
+pub room : {c : Code} {message : List ℕ} → MessageOf c message → c .n - c .k + length message ≡ c .n
+room M = omega (arith, M .known .within, M .long)
 
-pub placed : {m row d : ℕ} (message lent : List ℕ) {word : List ℕ} → RowOf m row → d ≡ nOf m - getD ks row 0 → length message ≡ getD ks row 0 → length lent ≡ nOf m → AreBits message
-    → word ≡ paste (replicate (length lent) 0) d message (length message) → Placed m d message word
-placed {m} {row} {d} message lent {word} w e k n b p =
-    let q : word ≡ paste (replicate (nOf m) 0) d message (length message) = p ∙ ap (λ (x : ℕ). paste (replicate x 0) d message (length message)) n in
-    let z = length-replicate {A = ℕ} (nOf m) 0 in
-    let l : length word ≡ nOf m = ap length q ∙ length-paste (replicate (nOf m) 0) d message (length message) (omega (arith, room w e k n)) (omega arith) ∙ z in
-    let s = sizes (w .listed) in
-    record { is = q; bits = subst AreBits (sym q) (bits-paste d (bits-replicate (nOf m)) b); long = l; fits = omega (arith, room w e k n); small = omega arith }
+pub placed : {c : Code} {message word : List ℕ} (lent : List ℕ) → MessageOf c message → length lent ≡ c .n
+    → word ≡ paste (replicate (length lent) 0) (c .n - c .k) message (length message) → Placed c message word
+placed {c} {message} {word} lent M n p =
+    let q : word ≡ paste (replicate (c .n) 0) (c .n - c .k) message (length message) =
+    p ∙ ap (λ (x : ℕ). paste (replicate x 0) (c .n - c .k) message (length message)) n in
+    let z = length-replicate {A = ℕ} (c .n) 0 in
+    let l : length word ≡ c .n =
+    ap length q ∙ length-paste (replicate (c .n) 0) (c .n - c .k) message (length message) (omega (arith, room M)) (omega arith) ∙ z in
+    record {
+      is = q;
+      bits = subst AreBits (sym q) (bits-paste (c .n - c .k) (bits-replicate (c .n)) (M .bits));
+      long = l;
+      small = omega
+          (arith, M .known .small);
+    }

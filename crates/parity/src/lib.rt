@@ -1,21 +1,20 @@
 // The one code word that carries a message in its top places: the message put there, and its parity below. Also the change of a message.
 
 ghost use mathlib.Core.Path.{_≡_};
-ghost use Prim.Native.Nat.{_+_, _-_, _≤_};
-ghost use lib.ListN.{length, getD, take, replicate};
+ghost use Prim.Native.Nat.{_+_, _≤_};
+ghost use lib.ListN.{length, take, replicate};
 ghost use lib.Seq.{paste};
-ghost use Rattle.bits.specs.Bits.{AreBits};
-ghost use Rattle.field.specs.Power.{nOf};
-ghost use Rattle.codes.specs.Table.{RowOf, ks, ts};
 ghost use Rattle.codes.specs.Encoding.{Encoding};
-ghost use Rattle.parity.specs.Work.{WithParity, MessageChange};
+ghost use Rattle.parity.specs.Work.{MessageOf, Divisible, WithParity, StretchFits, MessageChange};
+use codes::Code;
 
-// The code word of a row of m that carries the message, d being n - k.
-pub fn fill_word(m: usize, row: usize, d: usize, message: &[u8], word: &mut [u8])
-    requires { ⌜ RowOf m row × (d ≡ nOf m - getD ks row 0) × AreBits (now message) × (length (now message) ≡ getD ks row 0) × (length (now word) ≡ nOf m) ⌝ }
-    ensures { λ _. ⌜ Encoding m (getD ts row 0) (getD ks row 0) (now (message .entry)) (now (word .exit)) ⌝ }
+// The code word that carries the message.
+pub fn fill_word(code: Code, message: &[u8], word: &mut [u8])
+    requires { ⌜ MessageOf code (now message) × (length (now word) ≡ code .n) ⌝ }
+    ensures { λ _. ⌜ Encoding (code .m) (code .t) (code .k) (now (message .entry)) (now (word .exit)) ⌝ }
 {
-    let g = generator::generator(m, row, d);
+    let d = code.n - code.k;
+    let g = generator::generator(code.m, code.row, d);
     let end = d + 1;
     place_message(d, message, word);
     add_parity(word, &g[..end], d);
@@ -32,7 +31,7 @@ fn place_message(d: usize, message: &[u8], word: &mut [u8])
 
 // To a word that is clear below place d, what is left of it after division by g of degree d.
 fn add_parity(word: &mut [u8], g: &[u8], d: usize)
-    requires { ⌜ AreBits (now word) × AreBits (now g) × (length (now g) ≡ d + 1) × (getD (now g) d 0 ≡ 1) × (length (now word) ≤ 1024) × (d ≤ length (now word)) ⌝ }
+    requires { ⌜ Divisible d (now g) (now word) ⌝ }
     ensures { λ _. ⌜ WithParity d (now (g .entry)) (now (word .entry)) (now (word .exit)) ⌝ }
 {
     let n = word.len();
@@ -42,20 +41,20 @@ fn add_parity(word: &mut [u8], g: &[u8], d: usize)
     bits::add_at(word, 0, &space[..d]);
 }
 
-// The code word of a row of m that carries the message, d being n - k, at the front of room for any word.
-pub fn code_word(m: usize, row: usize, d: usize, message: &[u8]) -> [u8; 1024]
-    requires { ⌜ RowOf m row × (d ≡ nOf m - getD ks row 0) × AreBits (now message) × (length (now message) ≡ getD ks row 0) ⌝ }
-    ensures { λ r. ⌜ Encoding m (getD ts row 0) (getD ks row 0) (now (message .entry)) (take (nOf m) r) × (1024 ≡ length r) ⌝ }
+// The same at the front of room for any word.
+pub fn code_word(code: Code, message: &[u8]) -> [u8; 1024]
+    requires { ⌜ MessageOf code (now message) ⌝ }
+    ensures { λ r. ⌜ Encoding (code .m) (code .t) (code .k) (now (message .entry)) (take (code .n) r) × (1024 ≡ length r) ⌝ }
 {
-    let n = d + message.len();
+    let n = code.n;
     let mut space = bits::word_space();
-    fill_word(m, row, d, message, &mut space[..n]);
+    fill_word(code, message, &mut space[..n]);
     space
 }
 
 // The change of the message: from `start` on the stretch and the old bits, which stand in the word from place `at` on, added; zeros elsewhere.
 pub fn message_change(word: &[u8], at: usize, start: usize, stretch: &[u8]) -> [u8; 1024]
-    requires { ⌜ (at + length (now stretch) ≤ length (now word)) × (start + length (now stretch) ≤ 1024) × (length (now word) ≤ 1024) × AreBits (now word) × AreBits (now stretch) ⌝ }
+    requires { ⌜ StretchFits (now word) at start (now stretch) ⌝ }
     ensures { λ r. ⌜ MessageChange (now (word .entry)) at start (now (stretch .entry)) r ⌝ }
 {
     let end = at + stretch.len();

@@ -5,14 +5,17 @@ use Prim.Native.Nat.{ℕ, _≤_}
 use native.Mathlib.Omega.{arith}
 use lib.ListN.{getD}
 use Rattle.sheet.specs.declared.Refusal.{Refusal}
-use Rattle.sheet.specs.declared.Refusal.the-variants.{FieldSize, NotListed, InputLength, OutputLength, BitAboveOne, NothingNear, RecordContents, SecondCheck, FrameLength, PadBit, LeadBits, StretchEnd}
-use Rattle.sheet.specs.Number.{numberOf}
+use Rattle.sheet.specs.declared.Refusal.the-variants.{FieldSize, NotListed, InputLength, OutputLength, BitAboveOne, NothingNear}
+use Rattle.sheet.specs.declared.Refusal.the-variants.{RecordContents, SecondCheck, FrameLength, PadBit, LeadBits, StretchEnd}
+use Rattle.sheet.specs.declared.Outcome.{Outcome}
+use Rattle.sheet.specs.declared.Outcome.the-variants.{Done, Refused}
+use Rattle.sheet.specs.Number.{numberOf, outcomeNumber}
 
 -- the refusals in the order of their numbers
 sheet : List Refusal
 sheet =
-    FieldSize
-    ∷ FieldSize ∷ NotListed ∷ InputLength ∷ OutputLength ∷ BitAboveOne ∷ NothingNear ∷ RecordContents ∷ SecondCheck ∷ FrameLength ∷ PadBit ∷ LeadBits ∷ StretchEnd ∷ []
+    FieldSize ∷ FieldSize ∷ NotListed ∷ InputLength ∷ OutputLength ∷ BitAboveOne ∷ NothingNear
+    ∷ RecordContents ∷ SecondCheck ∷ FrameLength ∷ PadBit ∷ LeadBits ∷ StretchEnd ∷ []
 
 -- each refusal stands at its number
 found : (r : Refusal) → getD sheet (numberOf r) FieldSize ≡ r
@@ -50,3 +53,10 @@ number-positive StretchEnd = omega arith
 -- no refusal has the number 0
 pub refusal-not : (r : Refusal) → numberOf r ≡ 0 → ⊥
 refusal-not r z = omega (arith, number-positive r)
+
+-- an outcome's number tells it
+pub outcome-tells : (x y : Outcome) → outcomeNumber x ≡ outcomeNumber y → x ≡ y
+outcome-tells Done Done e = refl
+outcome-tells Done (Refused r) e = absurd (refusal-not r (sym e))
+outcome-tells (Refused r) Done e = absurd (refusal-not r e)
+outcome-tells (Refused r) (Refused s) e = ap Refused (number-tells e)

@@ -1,8 +1,10 @@
--- The sheet's number of each refusal, and how an operation runs down the sheet.
-use mathlib.Core.Bool.{Bool, true, false}
+-- The sheet's number of each refusal and of each outcome.
 use Prim.Native.Nat.{ℕ}
 use Rattle.sheet.specs.declared.Refusal.{Refusal}
-use Rattle.sheet.specs.declared.Refusal.the-variants.{FieldSize, NotListed, InputLength, OutputLength, BitAboveOne, NothingNear, RecordContents, SecondCheck, FrameLength, PadBit, LeadBits, StretchEnd}
+use Rattle.sheet.specs.declared.Refusal.the-variants.{FieldSize, NotListed, InputLength, OutputLength, BitAboveOne, NothingNear}
+use Rattle.sheet.specs.declared.Refusal.the-variants.{RecordContents, SecondCheck, FrameLength, PadBit, LeadBits, StretchEnd}
+use Rattle.sheet.specs.declared.Outcome.{Outcome}
+use Rattle.sheet.specs.declared.Outcome.the-variants.{Done, Refused}
 
 abbrev pub numberOf : Refusal → ℕ
 numberOf FieldSize = 1
@@ -18,7 +20,6 @@ numberOf PadBit = 10
 numberOf LeadBits = 11
 numberOf StretchEnd = 12
 
--- the number n where the condition holds, and what the later checks give where it does not
-abbrev pub refuseIf : Bool → ℕ → ℕ → ℕ
-refuseIf true n later = n
-refuseIf false n later = later
+abbrev pub outcomeNumber : Outcome → ℕ
+outcomeNumber Done = 0
+outcomeNumber (Refused r) = numberOf r

@@ -1,7 +1,7 @@
-// The refusal sheet: one variant for each number, with the condition under which it is given where no earlier check has refused.
+// The refusal sheet: one variant for each number, with the condition under which it is given where no earlier check has refused; and what the checks come to.
 
 ghost use mathlib.Core.Path.{_≡_};
-ghost use Rattle.sheet.specs.Number.{numberOf};
+ghost use Rattle.sheet.specs.Number.{numberOf, outcomeNumber};
 
 pub enum Refusal {
     // 1: m is not 3 to 10.
@@ -28,6 +28,22 @@ pub enum Refusal {
     LeadBits,
     // 12: a stretch runs past the end.
     StretchEnd,
+}
+
+// What the checks of an operation come to, and what an operation answers beside its values.
+pub enum Outcome {
+    Done,
+    Refused(Refusal),
+}
+
+// 0 where nothing is refused.
+pub fn outcome_number(o: Outcome) -> u32
+    ensures { λ n. ⌜ n ≡ outcomeNumber o ⌝ }
+{
+    match o {
+        Outcome::Done => 0,
+        Outcome::Refused(r) => number(r),
+    }
 }
 
 pub fn number(r: Refusal) -> u32

@@ -1,38 +1,47 @@
--- Splice: one place after the other, and the outcomes, one lemma for each way out.
+-- Splice: what the checks leave, one place after the other, and the record after the work.
 use mathlib.Core.Path.{_≡_, _∙_, refl, sym, ap, ap₂}
-use mathlib.Core.Bool.{Bool, true, false}
 use mathlib.Core.List.{List, [], _∷_, _++_}
 use Prim.Native.Nat.{ℕ, _+_, _*_, _≤_, _<_}
 use native.Mathlib.Decide.{ℕ-discrete}
 use native.Mathlib.Numerals.{add-one}
 use native.Mathlib.Omega.{arith}
+use borrow.Author.Tests.{ltb-false}
 use lib.ListN.{length, getD, set}
 use lib.Seq.{paste, paste-zero, paste-suc, length-paste, drop-paste, set-getD}
-use Rattle.sheet.specs.declared.Refusal.{Refusal}
-use Rattle.sheet.specs.declared.Refusal.the-variants.{BitAboveOne, RecordContents, StretchEnd}
-use Rattle.sheet.specs.Number.{numberOf, refuseIf}
-use Rattle.bits.specs.Bits.{hasBadBit, runsPast}
+use Rattle.sheet.specs.declared.Outcome.the-variants.{Done}
+use Rattle.sheet.specs.Verdict.{verdict}
+use Rattle.sheet.proofs.VerdictLaws.{all-pass}
 use Rattle.bits.specs.Differences.{differences}
+use Rattle.bits.proofs.BitLaws.{bits-of-not-bad}
 use Rattle.bits.proofs.DistanceLaws.{differences-self, differences-more}
 use Rattle.bits.proofs.Turns.{same-from}
 use Rattle.entries.specs.Entries.{Filled}
 use Rattle.entries.proofs.FillLaws.{fill-from, fill-as, fill-after}
 use Rattle.field.specs.Sum.{_⊕_}
-use Rattle.field.specs.Product.{Listed}
-use Rattle.field.specs.Power.{a, nOf, power}
+use Rattle.field.specs.Product.{IsField}
+use Rattle.field.specs.Power.{a, power}
 use Rattle.field.proofs.SumLaws.{sum-zero, sum-assoc}
 use Rattle.field.proofs.PowerLaws.{power-mul}
-use Rattle.codes.specs.Look.{codeRefusal, Accepted}
+use Rattle.codes.specs.declared.Code.{Code}
+use Rattle.codes.specs.Look.{Known}
 use Rattle.codes.specs.Sums.{sumOver}
 use Rattle.codes.proofs.SumLaws.{sumOver-nil}
 use Rattle.sums.proofs.SumSteps.{sumOver-snoc}
-use Rattle.sheet.proofs.NumberLaws.{refusal-not}
 use Rattle.kept.specs.declared.Kept.{Kept}
-use Rattle.kept.specs.declared.Answer.{Answer}
-use Rattle.kept.specs.declared.Outcome.the-variants.{Done, Refused}
-use Rattle.kept.specs.Record.{outcomeNumber, badRecord}
-use Rattle.splice.specs.Splice.{Splices, Spliced, spliceRefusal}
-use Rattle.splice.specs.Work.{PlaceSpliced, StretchSpliced, plusPlaces}
+use Rattle.kept.proofs.RecordLaws.{sound}
+use Rattle.splice.specs.Splice.{Spliced, spliceChecks}
+use Rattle.splice.specs.Work.{SpliceReady, PlaceSpliced, StretchSpliced, plusPlaces}
+
+pub splice-ready : {c : Code} (stored : Kept) (start : ℕ) (stretch : List ℕ) → Known c → verdict (spliceChecks stored start stretch c) ≡ Done
+    → SpliceReady c stored start stretch
+splice-ready {c} stored start stretch K e =
+    let (contents, (end, (bits, _))) = all-pass (spliceChecks stored start stretch c) e in
+    record {
+      known = K;
+      sound = sound c stored contents;
+      ends = ltb-false (c .n) (start + length stretch) end;
+      bits = bits-of-not-bad stretch bits;
+    }
 
 -- the place holds b already
 pub place-kept : {m t b p : ℕ} (bits sums : List ℕ) → getD bits p 0 ≡ b → PlaceSpliced m t b p bits sums bits sums
@@ -41,17 +50,19 @@ place-kept {p = p} bits sums e =
 
 -- no place differs from itself
 pub none-added : (m i : ℕ) (bits sums : List ℕ) → plusPlaces m (differences bits bits) sums i ≡ getD sums i 0
-none-added m i bits sums = ap (λ (x : ℕ). getD sums i 0 ⊕ x) (ap (sumOver m (2 * i + 1)) (differences-self bits) ∙ sumOver-nil m (2 * i + 1)) ∙ sum-zero (getD sums i 0)
+none-added m i bits sums =
+    ap (λ (x : ℕ). getD sums i 0 ⊕ x) (ap (sumOver m (2 * i + 1)) (differences-self bits) ∙ sumOver-nil m (2 * i + 1)) ∙ sum-zero (getD sums i 0)
 
 pub stretch-start : (m t start : ℕ) (stretch bits sums : List ℕ) → StretchSpliced m t start stretch bits sums bits sums 0
 stretch-start m t start stretch bits sums =
     record { within = omega arith; is-bits = paste-zero bits start stretch; filled = fill-from _ t sums (λ i h. sym (none-added m i bits sums)) }
 
-pub stretch-long : {m t start i : ℕ} {stretch bits sums bits′ sums′ : List ℕ} → StretchSpliced m t start stretch bits sums bits′ sums′ i → start + i ≤ length bits → length bits′ ≡ length bits
+pub stretch-long : {m t start i : ℕ} {stretch bits sums bits′ sums′ : List ℕ} → StretchSpliced m t start stretch bits sums bits′ sums′ i
+    → start + i ≤ length bits → length bits′ ≡ length bits
 stretch-long {start = start} {i} {stretch} {bits} S h = ap length (S .is-bits) ∙ length-paste bits start stretch i h (S .within)
 
 -- one more place of the stretch
-module _ {m t start i : ℕ} {stretch bits sums bits′ sums′ bits″ sums″ : List ℕ} (L : Listed m) (S : StretchSpliced m t start stretch bits sums bits′ sums′ i)
+module _ {m t start i : ℕ} {stretch bits sums bits′ sums′ bits″ sums″ : List ℕ} (L : IsField m) (S : StretchSpliced m t start stretch bits sums bits′ sums′ i)
     (h : i < length stretch) (k : start + i < length bits) (P : PlaceSpliced m t (getD stretch i 0) (start + i) bits′ sums′ bits″ sums″) where
   untouched : (j : ℕ) → start + i ≤ j → getD bits j 0 ≡ getD bits′ j 0
   untouched j l =
@@ -91,41 +102,8 @@ stretch-done {i = i} {stretch} S h = rw at S
     at = omega (arith, S .within)
 
 -- the parts of the record after the work
-pub spliced-parts : {k k′ : Kept} {start : ℕ} {stretch : List ℕ} → k′ .m ≡ k .m → k′ .t ≡ k .t
-    → StretchSpliced (k .m) (k .t) start stretch (k .bits) (k .sums) (k′ .bits) (k′ .sums) (length stretch) → Spliced k start stretch k′
+pub spliced-parts : {c : Code} {stored after : Kept} {start : ℕ} {stretch : List ℕ} → after .m ≡ stored .m → after .t ≡ stored .t
+    → StretchSpliced (c .m) (c .t) start stretch (stored .bits) (stored .sums) (after .bits) (after .sums) (length stretch)
+    → Spliced c stored start stretch after
 spliced-parts e f S =
     record { m-is = e; t-is = f; bits-are = S .is-bits; sums-long = S .filled .same; sums-changed = S .filled .holds; sums-rest = S .filled .rest }
-
-refused-by : {k : Kept} {start : ℕ} {stretch : List ℕ} {r : Refusal} {answer : Answer} → spliceRefusal k start stretch ≡ numberOf r → answer .outcome ≡ Refused r
-    → answer .record ≡ k → Splices k start stretch answer
-refused-by {r = r} z o e = record { number = ap outcomeNumber o ∙ sym z; done = λ y. absurd (refusal-not r (sym z ∙ y)); refused = λ y. e }
-
-pub splice-early : {k : Kept} {start : ℕ} {r : Refusal} {answer : Answer} (stretch : List ℕ) → ((later : ℕ) → codeRefusal (k .m) (k .t) later ≡ numberOf r)
-    → answer .outcome ≡ Refused r → answer .record ≡ k → Splices k start stretch answer
-unfolding spliceRefusal
-splice-early stretch e o k = refused-by (e _) o k
-
-module _ (k : Kept) {n : ℕ} (A : Accepted (k .m) (k .t)) (is-n : n ≡ nOf (k .m)) (start : ℕ) (stretch : List ℕ) {wrong past bad : Bool}
-    (is-wrong : wrong ≡ badRecord k) (is-past : past ≡ runsPast start (length stretch) n) (is-bad : bad ≡ hasBadBit stretch) where
-  -- past the checks of m and t
-  refusal-is : spliceRefusal k start stretch ≡ refuseIf wrong 7 (refuseIf past 12 (refuseIf bad 5 0))
-  unfolding spliceRefusal
-  refusal-is =
-      A .passes _
-      ∙ ap (λ (x : ℕ). refuseIf (badRecord k) 7 (refuseIf (runsPast start (length stretch) x) 12 (refuseIf (hasBadBit stretch) 5 0))) (sym is-n)
-      ∙ sym (ap₂ (λ (x y : Bool). refuseIf x 7 (refuseIf y 12 (refuseIf bad 5 0))) is-wrong is-past
-      ∙ ap (λ (x : Bool). refuseIf (badRecord k) 7 (refuseIf (runsPast start (length stretch) n) 12 (refuseIf x 5 0))) is-bad)
-
-  pub splice-record : {answer : Answer} → wrong ≡ true → answer .outcome ≡ Refused RecordContents → answer .record ≡ k → Splices k start stretch answer
-  splice-record w o e = refused-by (refusal-is ∙ rw w) o e
-
-  pub splice-end : {answer : Answer} → wrong ≡ false → past ≡ true → answer .outcome ≡ Refused StretchEnd → answer .record ≡ k → Splices k start stretch answer
-  splice-end w p o e = refused-by (refusal-is ∙ rw (w, p)) o e
-
-  pub splice-bit : {answer : Answer} → wrong ≡ false → past ≡ false → bad ≡ true → answer .outcome ≡ Refused BitAboveOne → answer .record ≡ k → Splices k start stretch answer
-  splice-bit w p b o e = refused-by (refusal-is ∙ rw (w, p, b)) o e
-
-  pub splice-done : {answer : Answer} → wrong ≡ false → past ≡ false → bad ≡ false → answer .outcome ≡ Done → Spliced k start stretch (answer .record) → Splices k start stretch answer
-  splice-done w p b o S =
-      let z : spliceRefusal k start stretch ≡ 0 = refusal-is ∙ rw (w, p, b) in
-      record { number = ap outcomeNumber o ∙ sym z; done = λ y. S; refused = λ y. absurd (y z) }

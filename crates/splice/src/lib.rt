@@ -1,67 +1,75 @@
 // Splice: a stretch of a kept word replaced, and its sums brought up to date by the places that changed.
 
-ghost use mathlib.Core.Path.{_≡_};
-ghost use Prim.Native.Nat.{_+_, _≤_, _<_};
 ghost use lib.ListN.{length};
-ghost use Rattle.field.specs.Product.{Listed};
-ghost use Rattle.field.specs.Power.{nOf};
-ghost use Rattle.field.specs.Tables.{Powers};
-ghost use Rattle.codes.specs.Look.{Accepted};
-ghost use Rattle.kept.specs.declared.Outcome.the-variants.{Refused};
-ghost use Rattle.splice.specs.Splice.{Splices, Spliced};
-ghost use Rattle.splice.specs.Work.{PlaceSpliced, StretchSpliced};
+ghost use Rattle.codes.specs.Look.{Checked};
+ghost use Rattle.splice.specs.Splice.{Splices, Spliced, spliceChecks};
+ghost use Rattle.splice.specs.Work.{SpliceReady, StretchReady, PlaceReady, PlaceSpliced, StretchSpliced};
+use codes::Code;
 use codes::Look;
 use kept::Answer;
 use kept::Kept;
-use kept::Outcome;
+use sheet::Outcome;
 use sheet::Refusal;
 
+// A refused Splice gives back the record it got.
 pub fn splice(stored: Kept, start: usize, stretch: &[u8]) -> Answer
     ensures { λ r. ⌜ Splices stored start (now (stretch .entry)) r ⌝ }
 {
-    let look = codes::look_up(stored.m, stored.t);
-    match look {
-        Look::Row { row: _, k: _ } => splice_listed(stored, start, stretch),
-        Look::Refused(r) => refused(r, stored),
+    let checked = checks(stored, start, stretch);
+    match checked {
+        Look::Passes(code) => Answer {
+            outcome: Outcome::Done,
+            record: spliced(code, stored, start, stretch),
+        },
+        Look::Refused(r) => Answer {
+            outcome: Outcome::Refused(r),
+            record: stored,
+        },
     }
 }
 
-// The same for a listed code.
-fn splice_listed(stored: Kept, start: usize, stretch: &[u8]) -> Answer
-    requires { ⌜ Accepted (stored .m) (stored .t) ⌝ }
-    ensures { λ r. ⌜ Splices stored start (now (stretch .entry)) r ⌝ }
+fn checks(stored: Kept, start: usize, stretch: &[u8]) -> Look
+    ensures { λ r. ⌜ Checked (stored .m) (stored .t) (spliceChecks stored start (now (stretch .entry))) r ⌝ }
 {
-    let n = field::n_of(stored.m);
-    let wrong = kept::is_bad(stored, n);
-    let past = bits::runs_past(start, stretch.len(), n);
-    let bad = bits::has_bad_bit(stretch);
+    let look = codes::look_up(stored.m, stored.t);
+    let Look::Passes(code) = look else {
+        return look;
+    };
+    let wrong = kept::is_bad(code, stored);
     if wrong {
-        return refused(Refusal::RecordContents, stored);
+        return Look::Refused(Refusal::RecordContents);
     }
+    let past = bits::runs_past(start, stretch.len(), code.n);
     if past {
-        return refused(Refusal::StretchEnd, stored);
+        return Look::Refused(Refusal::StretchEnd);
     }
-    if bad {
-        return refused(Refusal::BitAboveOne, stored);
+    let bad = bits::first_above_one(stretch);
+    if bad < stretch.len() {
+        return Look::Refused(Refusal::BitAboveOne);
     }
-    Answer {
-        outcome: Outcome::Done,
-        record: spliced(stored, start, stretch),
-    }
+    look
 }
 
-// Past the checks: the two tables for this m, and the work.
-fn spliced(stored: Kept, start: usize, stretch: &[u8]) -> Kept
-    requires { ⌜ Accepted (stored .m) (stored .t) × (start + length (now stretch) ≤ nOf (stored .m)) ⌝ }
-    ensures { λ r. ⌜ Spliced stored start (now (stretch .entry)) r ⌝ }
+// Past the checks: the powers of a for this m, and the work.
+fn spliced(code: Code, stored: Kept, start: usize, stretch: &[u8]) -> Kept
+    requires { ⌜ SpliceReady code stored start (now stretch) ⌝ }
+    ensures { λ r. ⌜ Spliced code stored start (now (stretch .entry)) r ⌝ }
 {
     let m = stored.m;
     let t = stored.t;
     let mut bits = stored.bits;
     let mut sums = stored.sums;
     let mut powers = field::powers_space();
-    field::fill_powers(m, &mut powers);
-    splice_stretch(m, &powers, t, start, stretch, &mut bits, &mut sums);
+    field::fill_powers(code.m, &mut powers);
+    splice_stretch(
+        code.m,
+        &powers,
+        code.t,
+        start,
+        stretch,
+        &mut bits,
+        &mut sums,
+    );
     Kept { m, t, bits, sums }
 }
 
@@ -74,8 +82,9 @@ fn splice_stretch(
     bits: &mut [u8],
     sums: &mut [u16],
 )
-    requires { ⌜ Listed m × Powers m (now powers) × (start + length (now stretch) ≤ nOf m) × (nOf m ≤ length (now bits)) × (t ≤ length (now sums)) ⌝ }
-    ensures { λ _. ⌜ StretchSpliced m t start (now (stretch .entry)) (now (bits .entry)) (now (sums .entry)) (now (bits .exit)) (now (sums .exit)) (length (now (stretch .entry))) ⌝ }
+    requires { ⌜ StretchReady m (now powers) t start (now stretch) (now bits) (now sums) ⌝ }
+    ensures { λ _. ⌜ StretchSpliced m t start (now (stretch .entry)) (now (bits .entry)) (now (sums .entry))
+        (now (bits .exit)) (now (sums .exit)) (length (now (stretch .entry))) ⌝ }
 {
     let mut i = 0;
     while i < stretch.len() {
@@ -95,22 +104,12 @@ fn splice_place(
     bits: &mut [u8],
     sums: &mut [u16],
 )
-    requires { ⌜ Listed m × Powers m (now powers) × (p < nOf m) × (p < length (now bits)) × (t ≤ length (now sums)) ⌝ }
+    requires { ⌜ PlaceReady m (now powers) t p (now bits) (now sums) ⌝ }
     ensures { λ _. ⌜ PlaceSpliced m t b p (now (bits .entry)) (now (sums .entry)) (now (bits .exit)) (now (sums .exit)) ⌝ }
 {
     let old = bits[p];
     if old != b {
         bits[p] = b;
         sums::add_place(m, powers, p, t, sums);
-    }
-}
-
-// A refused Splice gives back the record it got.
-fn refused(r: Refusal, stored: Kept) -> Answer
-    ensures { λ a. ⌜ (a .outcome ≡ Refused r) × (a .record ≡ stored) ⌝ }
-{
-    Answer {
-        outcome: Outcome::Refused(r),
-        record: stored,
     }
 }

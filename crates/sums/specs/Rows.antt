@@ -5,7 +5,7 @@ use mathlib.Core.List.{List}
 use Prim.Native.Nat.{ℕ, _+_, _*_, _≤_, _<_}
 use lib.ListN.{length, getD, take}
 use Rattle.field.specs.Sum.{_⊕_}
-use Rattle.field.specs.Product.{Listed}
+use Rattle.field.specs.Product.{IsField}
 use Rattle.field.specs.Power.{power}
 use Rattle.codes.specs.Sums.{sumOf, sumOver}
 
@@ -24,7 +24,7 @@ placeSum m places i = sumOver m (2 * i + 1) places
 pub record Ones (word : List ℕ) (count : ℕ) (places : List ℕ) : Type 0 where
   pub within : count ≤ length places
   pub below : (i : ℕ) → i < count → getD places i 0 < length word
-  pub same : {m : ℕ} → Listed m → (j : ℕ) → sumOver m j (take count places) ≡ sumOf m j word
+  pub same : {m : ℕ} → IsField m → (j : ℕ) → sumOver m j (take count places) ≡ sumOf m j word
 
 -- 255 entries: the first t are the odd sums of a word, the others 0
 pub record OddSums (m t : ℕ) (word sums : List ℕ) : Type 0 where

@@ -5,14 +5,14 @@ ghost use Prim.Native.Nat.{ℕ, _≤_, _<_};
 ghost use lib.ListN.{length, getD, take, replicate};
 ghost use Rattle.bits.specs.Bits.{AreBits};
 ghost use Rattle.entries.specs.Entries.{Filled};
-ghost use Rattle.field.specs.Product.{Listed};
+ghost use Rattle.field.specs.Product.{IsField};
 ghost use Rattle.field.specs.Power.{a, nOf, power};
 ghost use Rattle.field.specs.Tables.{Powers};
 ghost use Rattle.sums.specs.Rows.{plusPower, wordSum, placeSum, Ones, OddSums, Vanish};
 
 // To the first t entries x, x^3, x^5, .. is added, x = a^p: the powers of a from exponent p on, by 2p.
 pub fn add_place(m: usize, powers: &[u16], p: usize, t: usize, sums: &mut [u16])
-    requires { ⌜ (Listed m) × (Powers m (now powers)) × (p < nOf m) × (t ≤ length (now sums)) ⌝ }
+    requires { ⌜ (IsField m) × (Powers m (now powers)) × (p < nOf m) × (t ≤ length (now sums)) ⌝ }
     ensures { λ _. ⌜ Filled (plusPower m (power m a p) (now (sums .entry))) t (now (sums .entry)) (now (sums .exit)) ⌝ }
 {
     let n = field::n_of(m);
@@ -29,7 +29,8 @@ pub fn place_sums(
     count: usize,
     sums: &mut [u16],
 )
-    requires { ⌜ (Listed m) × (Powers m (now powers)) × (count ≤ length (now places)) × ((i : ℕ) → i < count → getD (now places) i 0 < nOf m) × (t ≤ length (now sums)) ⌝ }
+    requires { ⌜ (IsField m) × (Powers m (now powers)) × (count ≤ length (now places))
+        × ((i : ℕ) → i < count → getD (now places) i 0 < nOf m) × (t ≤ length (now sums)) ⌝ }
     ensures { λ _. ⌜ Filled (placeSum m (take count (now (places .entry)))) t (now (sums .entry)) (now (sums .exit)) ⌝ }
 {
     entries::clear_first(t, sums);
@@ -65,7 +66,7 @@ fn list_ones(word: &[u8], places: &mut [u16]) -> usize
 
 // The first t entries become the odd sums S_1, S_3, .. of the word.
 fn word_sums(m: usize, powers: &[u16], t: usize, word: &[u8], sums: &mut [u16])
-    requires { ⌜ (Listed m) × (Powers m (now powers)) × (AreBits (now word)) × (length (now word) ≡ nOf m) × (t ≤ length (now sums)) ⌝ }
+    requires { ⌜ (IsField m) × (Powers m (now powers)) × (AreBits (now word)) × (length (now word) ≡ nOf m) × (t ≤ length (now sums)) ⌝ }
     ensures { λ _. ⌜ Filled (wordSum m (now (word .entry))) t (now (sums .entry)) (now (sums .exit)) ⌝ }
 {
     let mut places = places_space();
@@ -82,7 +83,7 @@ pub fn space() -> [u16; 255]
 
 // S_1, S_3, .. S_(2t-1) of a word, in room of their own, then zeros.
 pub fn odd_sums(m: usize, t: usize, powers: &[u16], word: &[u8]) -> [u16; 255]
-    requires { ⌜ Listed m × Powers m (now powers) × AreBits (now word) × (length (now word) ≡ nOf m) × (t ≤ 255) ⌝ }
+    requires { ⌜ IsField m × Powers m (now powers) × AreBits (now word) × (length (now word) ≡ nOf m) × (t ≤ 255) ⌝ }
     ensures { λ r. ⌜ OddSums m t (now (word .entry)) r ⌝ }
 {
     let mut sums = space();
@@ -92,7 +93,7 @@ pub fn odd_sums(m: usize, t: usize, powers: &[u16], word: &[u8]) -> [u16; 255]
 
 // Whether S_1, S_3, .. S_(2t-1) of a word are all 0.
 pub fn vanish(m: usize, t: usize, powers: &[u16], word: &[u8]) -> bool
-    requires { ⌜ Listed m × Powers m (now powers) × AreBits (now word) × (length (now word) ≡ nOf m) × (t ≤ 255) ⌝ }
+    requires { ⌜ IsField m × Powers m (now powers) × AreBits (now word) × (length (now word) ≡ nOf m) × (t ≤ 255) ⌝ }
     ensures { λ r. ⌜ Vanish m t (now (word .entry)) r ⌝ }
 {
     let sums = odd_sums(m, t, powers, word);

@@ -26,8 +26,14 @@ says-one x y p q =
 says-short : (line : List ℕ) (reading : Reading) → Says reading line → length line ≤ 62
 says-short line reading p =
     let q = p .after in
-    omega
-    (arith, ap length (p .is) ∙ length-append (p .text) (32 ∷ p .rest), p .number .few, ap length (q .is) ∙ length-append (q .text) (32 ∷ q .rest), q .number .few, q .after .few)
+    omega (
+      arith,
+      ap length (p .is) ∙ length-append (p .text) (32 ∷ p .rest),
+      p .number .few,
+      ap length (q .is) ∙ length-append (q .text) (32 ∷ q .rest),
+      q .number .few,
+      q .after .few,
+    )
 
 pub front-answers : (line : List ℕ) (answer : Typed) → Answers (take 63 line) answer → Answers line answer
 front-answers line answer a = pick (decLe (length line) 63) answer a

@@ -67,6 +67,7 @@ spelled-all text i v h s l =
     }
 
 -- 1 to 20 of them
-pub number-of : (text : List ℕ) (most : ℕ) (answer : Value) → 1 ≤ length text → length text ≤ 20 → AnswersSpelled text most answer → AnswersNumber text (most + 1) answer
+pub number-of : (text : List ℕ) (most : ℕ) (answer : Value) → 1 ≤ length text → length text ≤ 20 → AnswersSpelled text most answer
+    → AnswersNumber text (most + 1) answer
 number-of text most (Is n) h l p = record { some = h; few = l; digits = p .digits; value = p .value; small = omega (arith, p .small) }
 number-of text most Nothing h l p = λ n q. p n (record { digits = q .digits; value = q .value; small = omega (arith, q .small) })

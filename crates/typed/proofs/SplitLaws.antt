@@ -66,7 +66,8 @@ module _ {line : List ℕ} {i : ℕ} (at : BlankAt line i) (h : i < length line)
   number-then {below} p e a =
       record { text = take i line; rest = past line i; is = split at h; number = subst (λ (k : ℕ). Number (take i line) below k) (sym e) p; after = a }
 
-  pub poll-then : (house : ℕ) {poll : ℕ} (answer : Typed) → Number (take i line) (2 ^ 16) poll → AnswersCounter house poll (past line i) answer → AnswersPoll house line answer
+  pub poll-then : (house : ℕ) {poll : ℕ} (answer : Typed) → Number (take i line) (2 ^ 16) poll
+      → AnswersCounter house poll (past line i) answer → AnswersPoll house line answer
   poll-then house (Said reading) p a = (a .0, number-then p (a .1) (a .2))
   poll-then house Nothing p a = λ reading s. a reading (parts at h s .1)
 
@@ -75,7 +76,9 @@ module _ {line : List ℕ} {i : ℕ} (at : BlankAt line i) (h : i < length line)
   house-then Nothing p a = λ reading s. a reading (parts at h s .1)
 
 -- two numbers with more after them at the front of one line
-pub same-parts : {line : List ℕ} {below n m : ℕ} {A B : List ℕ → Type 0} (p : NumberThen line below n A) (q : NumberThen line below m B) → (n ≡ m) × (p .rest ≡ q .rest)
+pub same-parts : {line : List ℕ} {below n m : ℕ} {A B : List ℕ → Type 0} (p : NumberThen line below n A) (q : NumberThen line below m B)
+    → (n ≡ m) × (p .rest ≡ q .rest)
 same-parts p q =
-    let r = one-split (p .text) (q .text) (p .rest) (q .rest) (digits-no-blank (p .text) (p .number .digits)) (digits-no-blank (q .text) (q .number .digits)) (sym (p .is) ∙ q .is) in
+    let r = one-split (p .text) (q .text) (p .rest) (q .rest) (digits-no-blank (p .text) (p .number .digits))
+    (digits-no-blank (q .text) (q .number .digits)) (sym (p .is) ∙ q .is) in
     (p .number .value ∙ ap (valueFrom 0) (r .0) ∙ sym (q .number .value), r .1)

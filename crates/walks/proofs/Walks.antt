@@ -12,7 +12,7 @@ use lib.Seq.{getD-set-same, getD-set-other}
 use Rattle.entries.specs.Entries.{Filled}
 use Rattle.entries.proofs.FillLaws.{fill-from, fill-as}
 use Rattle.field.specs.Sum.{_⊕_}
-use Rattle.field.specs.Product.{Listed, _⊗⟨_⟩_}
+use Rattle.field.specs.Product.{IsField, _⊗⟨_⟩_}
 use Rattle.field.specs.Power.{a, nOf, power}
 use Rattle.field.specs.Tables.{Powers}
 use Rattle.walks.specs.Multiples.{plusWalk, plusMultiple, plusAt, plusFour, Added, Walked}
@@ -22,7 +22,8 @@ use Rattle.field.proofs.PowerLaws.{power-add, power-mul}
 use Rattle.field.proofs.Exponents.{around-below, around-power, Logarithm}
 
 -- one entry more, at place j
-added-next : {m i d j x : ℕ} (start step : ℕ) {before after : List ℕ} → Added m start step i d before after → j ≡ i + d → j < length before → x ≡ power m a (start + step * d)
+added-next : {m i d j x : ℕ} (start step : ℕ) {before after : List ℕ} → Added m start step i d before after → j ≡ i + d
+    → j < length before → x ≡ power m a (start + step * d)
     → Added m start step i (d + 1) before (plusAt after j x)
 added-next {m} {i} {d} {j} {x} start step {before} {after} s e h p =
     record {
@@ -41,7 +42,8 @@ added-none : (m start step i : ℕ) (xs : List ℕ) → Added m start step i 0 x
 added-none m start step i xs = record { same = refl; holds = λ k h. absurd (omega arith); low = λ k h. refl; high = λ k h. refl }
 
 -- an exponent that goes on by as many steps
-walked-on : {m : ℕ} → Listed m → (start step e d j i : ℕ) → power m a e ≡ power m a (start + step * j) → power m a d ≡ power m a (step * i) → power m a (e + d) ≡ power m a (start + step * (j + i))
+walked-on : {m : ℕ} → IsField m → (start step e d j i : ℕ) → power m a e ≡ power m a (start + step * j)
+    → power m a d ≡ power m a (step * i) → power m a (e + d) ≡ power m a (start + step * (j + i))
 walked-on {m} L start step e d j i here q =
     power-add L a e d
     ∙ ap₂ (λ (u v : ℕ). u ⊗⟨ m ⟩ v) here q
@@ -59,7 +61,8 @@ walked-start {m} {start} step i before h =
       added = added-none m start step i before;
     }
 
-pub walked-next : {m start step i d n e j x r : ℕ} {before after : List ℕ} → Listed m → Walked m start step i d before e after → n ≡ nOf m → j ≡ i + d → j < length before
+pub walked-next : {m start step i d n e j x r : ℕ} {before after : List ℕ} → IsField m → Walked m start step i d before e after
+    → n ≡ nOf m → j ≡ i + d → j < length before
     → x ≡ power m a e → r ≡ (e + step) % n → Walked m start step i (d + 1) before r (plusAt after j x)
 walked-next {m} {start} {step} {i} {d} {n} {e} L s is at l p q =
     record {
@@ -71,11 +74,14 @@ walked-next {m} {start} {step} {i} {d} {n} {e} L s is at l p q =
 pub walked-to : {m start step i d d′ e : ℕ} {before after : List ℕ} → Walked m start step i d before e after → d ≡ d′ → Walked m start step i d′ before e after
 walked-to {m} {start} {step} {i} {e = e} {before} {after} s q = subst (λ (z : ℕ). Walked m start step i z before e after) q s
 
-pub walked-by : {m start step i d e : ℕ} {before after after′ : List ℕ} → after′ ≡ after → Walked m start step i d before e after → Walked m start step i d before e after′
+pub walked-by : {m start step i d e : ℕ} {before after after′ : List ℕ} → after′ ≡ after → Walked m start step i d before e after
+    → Walked m start step i d before e after′
 walked-by {m} {start} {step} {i} {d} {e} {before} q s = subst (λ (xs : List ℕ). Walked m start step i d before e xs) (sym q) s
 
 -- one entry after the other
-pub four-added : {ws us vs zs : List ℕ} (powers xs : List ℕ) (e f g h j : ℕ) → ws ≡ plusAt xs j (getD powers e 0) → us ≡ plusAt ws (j + 1) (getD powers f 0) → vs ≡ plusAt us (j + 2) (getD powers g 0) → zs ≡ plusAt vs (j + 3) (getD powers h 0)
+pub four-added : {ws us vs zs : List ℕ} (powers xs : List ℕ) (e f g h j : ℕ) → ws ≡ plusAt xs j (getD powers e 0)
+    → us ≡ plusAt ws (j + 1) (getD powers f 0) → vs ≡ plusAt us (j + 2) (getD powers g 0)
+    → zs ≡ plusAt vs (j + 3) (getD powers h 0)
     → zs ≡ plusFour powers e f g h j xs
 four-added powers xs e f g h j p q r s =
     s
@@ -89,7 +95,8 @@ pub record Strides (m step n two three four : ℕ) : Type 0 where
   pub third : three ≡ (two + step) % n
   pub fourth : four ≡ 2 * two % n
 
-pub strides : {m n one two three four : ℕ} (step : ℕ) → Listed m → n ≡ nOf m → one ≡ step % n → two ≡ 2 * one % n → three ≡ (two + one) % n → four ≡ 2 * two % n → Strides m one n two three four
+pub strides : {m n one two three four : ℕ} (step : ℕ) → IsField m → n ≡ nOf m → one ≡ step % n → two ≡ 2 * one % n
+    → three ≡ (two + one) % n → four ≡ 2 * two % n → Strides m one n two three four
 strides step L is a b c d = record { is-n = is; short = around-below L step is a; second = b; third = c; fourth = d }
 
 pub record Within (m e step two three four : ℕ) : Type 0 where
@@ -98,7 +105,7 @@ pub record Within (m e step two three four : ℕ) : Type 0 where
   pub third : e + three < 2 * nOf m
   pub fourth : e + four < 2 * nOf m
 
-module _ {m step n two three four : ℕ} (L : Listed m) (S : Strides m step n two three four) where
+module _ {m step n two three four : ℕ} (L : IsField m) (S : Strides m step n two three four) where
   pub strides-within : {e : ℕ} → e < nOf m → Within m e step two three four
   strides-within k =
       let b = around-below L (2 * step) (S .is-n) (S .second) in
@@ -136,7 +143,8 @@ module _ {m step n two three four : ℕ} (L : Listed m) (S : Strides m step n tw
       sum = omega arith
 
   -- four entries more
-  walked-four : {start i d e j r : ℕ} {powers before after : List ℕ} → Powers m powers → Walked m start step i d before e after → j ≡ i + d → j + 4 ≤ length before → r ≡ (e + four) % n
+  walked-four : {start i d e j r : ℕ} {powers before after : List ℕ} → Powers m powers → Walked m start step i d before e after
+      → j ≡ i + d → j + 4 ≤ length before → r ≡ (e + four) % n
       → Walked m start step i (d + 4) before r (plusFour powers e (e + step) (e + two) (e + three) j after)
   walked-four {start} {i} {d} {e} {j} {r} {powers} {before} {after} P s at l q =
       record {
@@ -156,9 +164,12 @@ module _ {m step n two three four : ℕ} (L : Listed m) (S : Strides m step n tw
           added-next start step first (omega arith) (omega arith)
           (P .holds (e + step) (W .first) ∙ walked-on L start step e step d 1 (s .here) (ap (power m a) (sym (mul-one step))))
 
-      third : Added m start step i (d + 2 + 1) before (plusAt (plusAt (plusAt after j (getD powers e 0)) (j + 1) (getD powers (e + step) 0)) (j + 2) (getD powers (e + two) 0))
+      third : Added m start step i (d + 2 + 1) before
+          (plusAt (plusAt (plusAt after j (getD powers e 0)) (j + 1) (getD powers (e + step) 0)) (j + 2) (getD powers (e + two) 0))
       third =
-          added-next start step (subst (λ (z : ℕ). Added m start step i z before (plusAt (plusAt after j (getD powers e 0)) (j + 1) (getD powers (e + step) 0))) two-more second) (omega arith) (omega arith)
+          added-next start step
+          (subst (λ (z : ℕ). Added m start step i z before (plusAt (plusAt after j (getD powers e 0)) (j + 1) (getD powers (e + step) 0)))
+          two-more second) (omega arith) (omega arith)
           (P .holds (e + two) (W .second) ∙ walked-on L start step e two d 2 (s .here) two-steps)
         where
           two-more : d + 1 + 1 ≡ d + 2
@@ -167,7 +178,10 @@ module _ {m step n two three four : ℕ} (L : Listed m) (S : Strides m step n tw
       fourth : Added m start step i (d + 3 + 1) before (plusFour powers e (e + step) (e + two) (e + three) j after)
       fourth =
           added-next start step
-          (subst (λ (z : ℕ). Added m start step i z before (plusAt (plusAt (plusAt after j (getD powers e 0)) (j + 1) (getD powers (e + step) 0)) (j + 2) (getD powers (e + two) 0))) three-more third) (omega arith) (omega arith)
+          (subst
+          (λ (z : ℕ). Added m start step i z before
+          (plusAt (plusAt (plusAt after j (getD powers e 0)) (j + 1) (getD powers (e + step) 0)) (j + 2) (getD powers (e + two) 0)))
+          three-more third) (omega arith) (omega arith)
           (P .holds (e + three) (W .third) ∙ walked-on L start step e three d 3 (s .here) three-steps)
         where
           three-more : d + 2 + 1 ≡ d + 3
@@ -176,12 +190,14 @@ module _ {m step n two three four : ℕ} (L : Listed m) (S : Strides m step n tw
       last : d + 3 + 1 ≡ d + 4
       last = omega arith
 
-  pub walked-on-by-four : {start i d d′ e j r : ℕ} {powers before after after′ : List ℕ} → Powers m powers → Walked m start step i d before e after → j ≡ i + d → j + 4 ≤ length before → r ≡ (e + four) % n
+  pub walked-on-by-four : {start i d d′ e j r : ℕ} {powers before after after′ : List ℕ} → Powers m powers
+      → Walked m start step i d before e after → j ≡ i + d → j + 4 ≤ length before → r ≡ (e + four) % n
       → after′ ≡ plusFour powers e (e + step) (e + two) (e + three) j after → d + 4 ≡ d′ → Walked m start step i d′ before r after′
   walked-on-by-four P s at l q u z = walked-by u (walked-to (walked-four P s at l q) z)
 
 -- the first entries and then the others: a walk by the step that was brought below n
-pub walk-done : {m n one c d e count : ℕ} (from step : ℕ) {before middle after : List ℕ} → Listed m → n ≡ nOf m → one ≡ step % n → Walked m from one 0 c before e middle → Added m e one c d middle after → c + d ≡ count
+pub walk-done : {m n one c d e count : ℕ} (from step : ℕ) {before middle after : List ℕ} → IsField m → n ≡ nOf m → one ≡ step % n
+    → Walked m from one 0 c before e middle → Added m e one c d middle after → c + d ≡ count
     → Filled (plusWalk m from step before) count before after
 walk-done {m} {n} {one} {c} {d} {e} {count} from step {before} {middle} {after} L is q s u end =
     record {
@@ -202,7 +218,8 @@ walk-done {m} {n} {one} {c} {d} {e} {count} from step {before} {middle} {after} 
     pick : (i : ℕ) → i < count → Dec (i < c) → getD after i 0 ≡ getD before i 0 ⊕ power m a (from + step * i)
     pick i h (yes l) =
         let z : 0 + i ≡ i = omega arith in
-        u .low i l ∙ subst (λ (k : ℕ). getD middle k 0 ≡ getD before k 0 ⊕ power m a (from + one * i)) z (s .added .holds i l) ∙ ap (λ (z : ℕ). getD before i 0 ⊕ z) (near i)
+        u .low i l ∙ subst (λ (k : ℕ). getD middle k 0 ≡ getD before k 0 ⊕ power m a (from + one * i)) z (s .added .holds i l)
+        ∙ ap (λ (z : ℕ). getD before i 0 ⊕ z) (near i)
     pick i h (no l) =
         let z = place i (omega arith) in
         subst (λ (k : ℕ). getD after k 0 ≡ getD middle k 0 ⊕ power m a (e + one * (i - c))) z (u .holds (i - c) (omega arith))
@@ -210,9 +227,17 @@ walk-done {m} {n} {one} {c} {d} {e} {count} from step {before} {middle} {after} 
         (walked-on L from one e (one * (i - c)) c (i - c) (s .here) refl ∙ ap (λ (k : ℕ). power m a (from + one * k)) z ∙ near i)
 
 -- from the logarithm of s on: s times each power
-pub multiples-added : {m s t : ℕ} {logs before after : List ℕ} (step : ℕ) → Listed m → Logarithm m logs s → Filled (plusWalk m (getD logs s 0) step before) t before after → Filled (plusMultiple m s step before) t before after
-multiples-added {m} {s} {logs = logs} {before} step L l u = fill-as u (λ i h. ap (λ z. getD before i 0 ⊕ z) (power-add L a (getD logs s 0) (step * i) ∙ ap (λ (z : ℕ). z ⊗⟨ m ⟩ power m a (step * i)) (l .is)))
+pub multiples-added : {m s t : ℕ} {logs before after : List ℕ} (step : ℕ) → IsField m → Logarithm m logs s
+    → Filled (plusWalk m (getD logs s 0) step before) t before after → Filled (plusMultiple m s step before) t before after
+multiples-added {m} {s} {logs = logs} {before} step L l u =
+    fill-as u
+    (λ i h. ap (λ z. getD before i 0 ⊕ z)
+    (power-add L a (getD logs s 0) (step * i) ∙ ap (λ (z : ℕ). z ⊗⟨ m ⟩ power m a (step * i)) (l .is)))
 
 -- 0 has no logarithm, and its multiples add nothing
 pub multiples-skipped : {s : ℕ} (m step t : ℕ) (before : List ℕ) → s ≡ 0 → Filled (plusMultiple m s step before) t before before
-multiples-skipped m step t before z = fill-from _ t before (λ i h. sym (ap (λ x. getD before i 0 ⊕ x ⊗⟨ m ⟩ power m a (step * i)) z ∙ ap (λ x. getD before i 0 ⊕ x) (zero-product m (power m a (step * i))) ∙ sum-zero (getD before i 0)))
+multiples-skipped m step t before z =
+    fill-from _ t before
+    (λ i h. sym
+    (ap (λ x. getD before i 0 ⊕ x ⊗⟨ m ⟩ power m a (step * i)) z
+    ∙ ap (λ x. getD before i 0 ⊕ x) (zero-product m (power m a (step * i))) ∙ sum-zero (getD before i 0)))

@@ -4,7 +4,7 @@ ghost use mathlib.Core.Path.{_≡_};
 ghost use Prim.Native.Nat.{_+_, _^_, _≤_, _<_};
 ghost use lib.ListN.{length, getD};
 ghost use Rattle.entries.specs.Entries.{Filled};
-ghost use Rattle.field.specs.Product.{Listed};
+ghost use Rattle.field.specs.Product.{IsField};
 ghost use Rattle.field.specs.Power.{nOf};
 ghost use Rattle.field.specs.Tables.{Powers, Tables};
 ghost use Rattle.walks.specs.Multiples.{plusMultiple, plusWalk, plusAt, plusFour, Walked};
@@ -28,7 +28,8 @@ pub fn add_multiples(
     }
 }
 
-// To each of the first `count` entries the next power of a is added, the exponents from `from` on by `step`: one look into the table each. After the first few entries they go by fours, since none of the four looks waits for another.
+// To each of the first `count` entries the next power of a is added, the exponents from `from` on by `step`: one look into the table each.
+// After the first few entries they go by fours, since none of the four looks waits for another.
 pub fn add_walk(
     m: usize,
     powers: &[u16],
@@ -37,7 +38,7 @@ pub fn add_walk(
     count: usize,
     entries: &mut [u16],
 )
-    requires { ⌜ (Listed m) × (Powers m (now powers)) × (from < nOf m) × (step ≤ nOf m) × (count ≤ length (now entries)) ⌝ }
+    requires { ⌜ (IsField m) × (Powers m (now powers)) × (from < nOf m) × (step ≤ nOf m) × (count ≤ length (now entries)) ⌝ }
     ensures { λ _. ⌜ Filled (plusWalk m from step (now (entries .entry))) count (now (entries .entry)) (now (entries .exit)) ⌝ }
 {
     let n = field::n_of(m);
@@ -63,7 +64,7 @@ fn add_first(
     count: usize,
     entries: &mut [u16],
 ) -> usize
-    requires { ⌜ (Listed m) × (Powers m (now powers)) × (from < nOf m) × (step < nOf m) × (count ≤ length (now entries)) ⌝ }
+    requires { ⌜ (IsField m) × (Powers m (now powers)) × (from < nOf m) × (step < nOf m) × (count ≤ length (now entries)) ⌝ }
     ensures { λ r. ⌜ Walked m from step 0 count (now (entries .entry)) r (now (entries .exit)) ⌝ }
 {
     let n = field::n_of(m);
@@ -79,7 +80,8 @@ fn add_first(
 
 // To the four entries from place j on, the powers with these exponents.
 fn add_four(powers: &[u16], e: usize, f: usize, g: usize, h: usize, j: usize, entries: &mut [u16])
-    requires { ⌜ (e < length (now powers)) × (f < length (now powers)) × (g < length (now powers)) × (h < length (now powers)) × (j + 4 ≤ length (now entries)) ⌝ }
+    requires { ⌜ (e < length (now powers)) × (f < length (now powers)) × (g < length (now powers)) × (h < length (now powers))
+        × (j + 4 ≤ length (now entries)) ⌝ }
     ensures { λ _. ⌜ now (entries .exit) ≡ plusFour (now (powers .entry)) e f g h j (now (entries .entry)) ⌝ }
 {
     add_at(powers, e, j, entries);

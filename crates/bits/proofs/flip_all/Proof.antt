@@ -26,7 +26,8 @@ record Flipping (first places : List ℕ) (count : ℕ) (dst : List ℕ) (i : �
 place : {first places dst : List ℕ} {count i : ℕ} → Flipping first places count dst i → i < count → getD places i 0 < length dst
 place {places = places} {count = count} {i} f h =
     rw (f .same) (f .below (getD places i 0)
-    (subst (λ (p : ℕ). List·Memᴰ p (take count places)) (getD-take count places i 0 h) (member-at (take count places) i (omega (arith, length-take-le count places (f .listed))))))
+    (subst (λ (p : ℕ). List·Memᴰ p (take count places)) (getD-take count places i 0 h)
+    (member-at (take count places) i (omega (arith, length-take-le count places (f .listed))))))
 
 next : {first places dst : List ℕ} {count i : ℕ} → Flipping first places count dst i → i < count
     → Flipping first places count (set dst (getD places i 0) (1 - getD dst (getD places i 0) 0)) (i + 1)

@@ -1,12 +1,12 @@
 -- The sums of a code word vanish.
-use borrow.Author.Needs.{needs}
 use mathlib.Core.Path.{_≡_, refl}
 use mathlib.Core.Bool.{Bool, true, false}
-use Prim.Native.Nat.{ℕ}
 use mathlib.Core.List.{List}
+use Prim.Native.Nat.{ℕ}
 use native.Mathlib.Omega.{arith}
 use Rattle.codes.specs.Sums.{CodeWord}
 use Rattle.sums.specs.Rows.{Vanish}
+use borrow.Author.Needs.{needs}
 use Rattle.decode.proofs.passes_again.Statement.{statement}
 use Rattle.decode.proofs.passes_again.Tie as tie
 
@@ -21,7 +21,7 @@ vanish-requires : tie.Need-vanish-requires
 vanish-requires c κs = search needs
 
 returns-2 : tie.Need-returns-2
-returns-2 c = vanishing _ (c .before .before .before .pre .2) (c .vanish .ensures)
+returns-2 c = vanishing _ (c .before .before .before .pre .1) (c .vanish .ensures)
 
 pub passes-again-spec : {M : Type 1} → statement M
 passes-again-spec = tie.close (tie.spec returns vanish-requires returns-2)

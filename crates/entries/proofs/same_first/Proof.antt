@@ -39,7 +39,10 @@ loop-less : tie.Need-loop-less Inv-loop μ-loop
 loop-less c = omega arith
 
 loop-again : tie.Need-loop-again Inv-loop μ-loop
-loop-again c = let s = c .before .before .before .before .before in (omega arith, one-lower (λ (k : ℕ). getD (s .args .xs .now) k 0 ≡ getD (s .args .ys .now) k 0) (c .before .before .before .before .loop .inv .1) (c .if1 .left))
+loop-again c =
+    let at-loop = c .before .before .before .before in
+    let entry = at-loop .before in
+    (omega arith, one-lower (λ (k : ℕ). getD (entry .args .xs .now) k 0 ≡ getD (entry .args .ys .now) k 0) (at-loop .loop .inv .1) (c .if1 .left))
 
 returns-2 : tie.Need-returns-2 Inv-loop μ-loop
 returns-2 c = record { yes = λ e i h. c .before .loop .inv .1 i (omega arith) h; no = λ e h. false≢true (sym e) }

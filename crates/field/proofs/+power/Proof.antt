@@ -4,7 +4,7 @@ use Prim.Native.Nat.{ℕ, _/_, _%_, _<_}
 use native.Mathlib.Omega.{arith}
 use borrow.Fn.Kinds.{In}
 use borrow.Fn.PlainCycle.{Measures, is, falls, and}
-use Rattle.field.specs.Product.{Listed, _⊗⟨_⟩_}
+use Rattle.field.specs.Product.{IsField, _⊗⟨_⟩_}
 use Rattle.field.specs.Power.{power as powerOf}
 use Rattle.field.proofs.ProductLaws.{product-bound}
 use Rattle.field.proofs.PowerLaws.{power-zero, power-bound, power-half-even, power-half-odd}
@@ -24,10 +24,10 @@ power-at t = and 2 power-kinds.ps (is 2 power-kinds.ps μ-power t) power.Pre
 abbrev power-below : ℕ → In 2 power-kinds.ps
 power-below t = and 2 power-kinds.ps (falls 2 power-kinds.ps _<_ μ-power t) power.Pre
 
-even : (m x e half square : ℕ) → Listed m → half ≡ powerOf m x (e / 2) → square ≡ half ⊗⟨ m ⟩ half → e % 2 ≡ 0 → square ≡ powerOf m x e
+even : (m x e half square : ℕ) → IsField m → half ≡ powerOf m x (e / 2) → square ≡ half ⊗⟨ m ⟩ half → e % 2 ≡ 0 → square ≡ powerOf m x e
 even m x e half square l p q z = rw (q, p) (sym (power-half-even l x e z))
 
-odd : (m x e half square : ℕ) → Listed m → half ≡ powerOf m x (e / 2) → square ≡ half ⊗⟨ m ⟩ half → (e % 2 ≡ 0 → ⊥)
+odd : (m x e half square : ℕ) → IsField m → half ≡ powerOf m x (e / 2) → square ≡ half ⊗⟨ m ⟩ half → (e % 2 ≡ 0 → ⊥)
     → square ⊗⟨ m ⟩ x ≡ powerOf m x e
 odd m x e half square l p q z = rw (q, p) (sym (power-half-odd l x e (omega arith)))
 
@@ -64,7 +64,9 @@ power-product-requires-2 : (t : ℕ) → power-lts.Need-product-requires-2 (
   product-reads.Learnt,
 ) (power-at t) power.Post
 power-product-requires-2 t c κs =
-    let p = c .before .before .before .before .before .before .pre .1 in (p .0, rw (c .before .product .ensures) (product-bound (p .0 .listed) _ _), p .1)
+    let at-power = c .before .before in
+    let p = at-power .before .before .before .before .pre .1 in
+    (p .0, rw (c .before .product .ensures) (product-bound (p .0 .listed) _ _), p .1)
 
 power-returns-2 : (t : ℕ) → power-lts.Need-returns-2 (
   power-below t,
@@ -73,8 +75,9 @@ power-returns-2 : (t : ℕ) → power-lts.Need-returns-2 (
   product-reads.Learnt,
 ) (power-at t) power.Post
 power-returns-2 t c =
-    let p = c .before .before .before .before .before .before .pre .1 in
-    even _ _ _ _ _ (p .0 .listed) (c .before .before .power .ensures) (c .before .product .ensures) (c .if2 .taken)
+    let at-power = c .before .before in
+    let p = at-power .before .before .before .before .pre .1 in
+    even _ _ _ _ _ (p .0 .listed) (at-power .power .ensures) (c .before .product .ensures) (c .if2 .taken)
 
 power-returns-3 : (t : ℕ) → power-lts.Need-returns-3 (
   power-below t,
@@ -83,9 +86,10 @@ power-returns-3 : (t : ℕ) → power-lts.Need-returns-3 (
   product-reads.Learnt,
 ) (power-at t) power.Post
 power-returns-3 t c =
-    let p = c .before .before .before .before .before .before .before .pre .1 in
+    let at-power = c .before .before .before in
+    let p = at-power .before .before .before .before .pre .1 in
     c .product2 .ensures
-    ∙ odd _ _ _ _ _ (p .0 .listed) (c .before .before .before .power .ensures) (c .before .before .product .ensures) (c .before .if2 .left)
+    ∙ odd _ _ _ _ _ (p .0 .listed) (at-power .power .ensures) (c .before .before .product .ensures) (c .before .if2 .left)
 
 pub +power-spec : {M : Type 1} → statement M
 +power-spec = close μ-power λ t. power-lts.spec (

@@ -7,7 +7,7 @@ use native.Mathlib.Nat.{ne-of-lt, lt-of-lt-of-le}
 use borrow.Author.Count.{below-none, below-more}
 use lib.ListN.{length, getD, set, length-set}
 use lib.Seq.{getD-set-same, getD-set-other}
-use Rattle.field.specs.Product.{Listed}
+use Rattle.field.specs.Product.{IsField}
 use Rattle.field.specs.Power.{a, nOf, power}
 use Rattle.field.specs.Tables.{Powers}
 use Rattle.field.proofs.Range.{sizes, logs-room}
@@ -17,7 +17,7 @@ use Rattle.field.proofs.fill_logs.Statement.{statement}
 use Rattle.field.proofs.fill_logs.Tie as tie
 
 record Filling (m n : ℕ) (powers first logs : List ℕ) (i : ℕ) : Type 0 where
-  listed : Listed m
+  listed : IsField m
   is-n : n ≡ nOf m
   table : Powers m powers
   fits : 2 ^ m ≤ length logs
@@ -42,7 +42,8 @@ filled : {m n i : ℕ} {powers first logs : List ℕ} → Filling m n powers fir
     → getD (set logs (power m a i) i) (power m a j) 0 ≡ j
 filled {m} {n} {i} {logs = logs} f h =
     below-more _ i
-    (λ j k. getD-set-other logs (power m a i) (power m a j) i 0 (λ e. ne-of-lt k (power-injective (f .listed) j i (omega arith) (omega arith) e)) ∙ f .holds j k)
+    (λ j k. getD-set-other logs (power m a i) (power m a j) i 0
+    (λ e. ne-of-lt k (power-injective (f .listed) j i (omega arith) (omega arith) e)) ∙ f .holds j k)
     (getD-set-same logs (power m a i) i 0 (lt-of-lt-of-le (power-bound (f .listed) a i) (f .fits)))
 
 next : {m n i : ℕ} {powers first logs : List ℕ} → Filling m n powers first logs i → i < n → Filling m n powers first (set logs (getD powers i 0) i) (i + 1)
@@ -62,8 +63,17 @@ n-of-requires c κs = c .before .before .pre .0
 
 loop-holds : tie.Need-loop-holds Inv-loop μ-loop
 loop-holds c =
-    let p = c .before .before .before .pre in
-    record { listed = p .0; is-n = c .n-of .ensures; table = p .1; fits = logs-room (p .0) (p .2); same = omega arith; within = omega arith; holds = below-none _ }
+    let entry = c .before .before .before in
+    let p = entry .pre in
+    record {
+      listed = p .0;
+      is-n = c .n-of .ensures;
+      table = p .1;
+      fits = logs-room (p .0) (p .2);
+      same = omega arith;
+      within = omega arith;
+      holds = below-none _;
+    }
 
 mul-x : tie.Need-mul-x Inv-loop μ-loop
 mul-x c = let s = sizes (c .before .loop .inv .listed) in omega arith

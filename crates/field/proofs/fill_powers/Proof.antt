@@ -9,7 +9,7 @@ use native.Mathlib.Numerals.{add-one}
 use borrow.Author.Count.{below-none, below-more}
 use lib.ListN.{length, getD, set, length-set}
 use lib.Seq.{getD-set-same, getD-set-other}
-use Rattle.field.specs.Product.{Listed, polynomial, _⊗⟨_⟩_}
+use Rattle.field.specs.Product.{IsField, polynomial, _⊗⟨_⟩_}
 use Rattle.field.specs.Power.{a, nOf, power}
 use Rattle.field.specs.Tables.{Powers}
 use Rattle.field.proofs.Range.{sizes, powers-room}
@@ -19,7 +19,7 @@ use Rattle.field.proofs.fill_powers.Statement.{statement}
 use Rattle.field.proofs.fill_powers.Tie as tie
 
 record Filling (m p n : ℕ) (first powers : List ℕ) (x i : ℕ) : Type 0 where
-  listed : Listed m
+  listed : IsField m
   is-polynomial : p ≡ polynomial m
   is-n : n ≡ nOf m
   fits : 2 * n ≤ length powers

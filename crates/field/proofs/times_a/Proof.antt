@@ -34,7 +34,8 @@ unfolding _⊕_
 returns c =
     let s = sizes (c .before .before .pre .0) in
     ap (λ (z : ℕ). 2 * c .before .before .args .x ⊕ z) (sym (one-mul (c .before .before .args .p)))
-    ∙ shifted-by (c .before .before .args .m) (c .before .before .args .p) (c .before .before .args .x) (over-one (c .before .before .args .m) (c .before .before .args .x) (omega (arith, c .if1 .taken)) (c .before .before .pre .2))
+    ∙ shifted-by (c .before .before .args .m) (c .before .before .args .p) (c .before .before .args .x)
+    (over-one (c .before .before .args .m) (c .before .before .args .x) (omega (arith, c .if1 .taken)) (c .before .before .pre .2))
     ∙ ap (λ (p : ℕ). shifted (c .before .before .args .m) p (c .before .before .args .x)) (c .before .before .pre .1)
     ∙ times-a (c .before .before .pre .0) _ (c .before .before .pre .2)
 

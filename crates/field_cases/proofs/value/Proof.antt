@@ -5,7 +5,7 @@ use Rattle.field.proofs.ProductLaws.{product-bound}
 use Rattle.field.proofs.SumLaws.{sum-bound}
 use Rattle.field.proofs.Range.{sizes}
 use Rattle.field.specs.Sum.{_⊕_}
-use Rattle.field.specs.Product.{Listed}
+use Rattle.field.specs.Product.{IsField}
 use Rattle.field.specs.Tables.{Tables}
 use lib.Pow.{pow-pos}
 use Rattle.field_cases.proofs.value.Statement.{statement}
@@ -18,7 +18,7 @@ abbrev μ-loop : tie.MeasureT-loop
 μ-loop m powers logs p x sum₀ i₀ sum i = i
 
 -- one more digit keeps the value below 2^m
-added : {m x : ℕ} (y : ℕ) → Listed m → x < 2 ^ m → x ⊕ y % 2 < 2 ^ m
+added : {m x : ℕ} (y : ℕ) → IsField m → x < 2 ^ m → x ⊕ y % 2 < 2 ^ m
 added {m} y l h = let s = sizes l in sum-bound m h (omega arith)
 
 loop-holds : tie.Need-loop-holds Inv-loop μ-loop

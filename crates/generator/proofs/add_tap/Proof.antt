@@ -7,7 +7,6 @@ use mathlib.Core.List.{List}
 use Prim.Native.Nat.{ℕ, _-_, _%_}
 use lib.ListN.{length, take}
 use Rattle.generator.proofs.Taps.{tap-skipped, tap-past, tap-added}
-use borrow.Author.Needs.{needs}
 use Rattle.generator.proofs.add_tap.Statement.{statement}
 use Rattle.generator.proofs.add_tap.Tie as tie
 
@@ -16,6 +15,14 @@ part g old e s = length-take-le (length g - e) old (omega arith)
 
 odd : (x : ℕ) → (x % 2 ≡ 0 → ⊥) → x % 2 ≡ 1
 odd x h = omega arith
+
+-- past the two tests: what was lent, and how long the part of it is that is added
+abbrev lent : tie.Else2 → tie.Start
+lent c = c .before .before .before .before
+
+part-long : (c : tie.Else2)
+    → length (take (length (lent c .args .g .now) - lent c .args .e) (lent c .args .old .now)) ≡ length (lent c .args .g .now) - lent c .args .e
+part-long c = part (lent c .args .g .now) (lent c .args .old .now) (lent c .args .e) (lent c .pre .2)
 
 cast-if1 : tie.Need-cast-if1
 cast-if1 c = search needs
@@ -33,16 +40,19 @@ sub-end : tie.Need-sub-end
 sub-end c = search needs
 
 slice-aggregate-add-at : tie.Need-slice-aggregate-add-at
-slice-aggregate-add-at c = sym (part (c .before .before .before .before .before .before .args .g .now) (c .before .before .before .before .before .before .args .old .now) (c .before .before .before .before .before .before .args .e) (c .before .before .before .before .before .before .pre .2))
+slice-aggregate-add-at c = sym (part-long (c .before .before))
 
 add-at-requires : tie.Need-add-at-requires
-add-at-requires c κs = let l = part (c .before .before .before .before .before .before .args .g .now) (c .before .before .before .before .before .before .args .old .now) (c .before .before .before .before .before .before .args .e) (c .before .before .before .before .before .before .pre .2) in omega (arith, l)
+add-at-requires c κs = omega (arith, part-long (c .before .before))
 
 same-length : tie.Need-same-length
 same-length c = search needs
 
 returns-3 : tie.Need-returns-3
-returns-3 c = let p = c .before .before .before .before .before .before .before .before .before .pre in rw (c .before .before .add-at .ensures) (tap-added _ _ (p .0) (p .1) (p .2) (odd _ (c .before .before .before .before .before .before .if1 .left)) (c .before .before .before .before .before .if2 .left))
+returns-3 c =
+    let past-if2 = c .before .before .before .before .before in
+    let p = lent past-if2 .pre in
+    rw (c .before .before .add-at .ensures) (tap-added _ _ (p .0) (p .1) (p .2) (odd _ (past-if2 .before .if1 .left)) (past-if2 .if2 .left))
 
 pub add-tap-spec : {M : Type 1} → statement M
 add-tap-spec =

@@ -26,10 +26,15 @@ loop-less : tie.Need-loop-less Inv-loop μ-loop
 loop-less c = omega arith
 
 loop-again : tie.Need-loop-again Inv-loop μ-loop
-loop-again c = taps-next (c .before .before .before .before .before .loop .inv) (c .before .before .before .before .loop-test .taken) (c .before .before .add-tap .ensures) (c .before .before .add-tap .kept .0)
+loop-again c =
+    let in-loop = c .before .before .before .before in
+    let at-loop = in-loop .before in
+    taps-next (at-loop .loop .inv) (in-loop .loop-test .taken) (c .before .before .add-tap .ensures) (c .before .before .add-tap .kept .0)
 
 same-length : tie.Need-same-length Inv-loop μ-loop
-same-length c = c .before .loop .inv .same ∙ sym (ap length (c .before .before .before .before .pre .0) ∙ length-replicate {A = ℕ} (length (c .before .before .before .before .args .old .now)) 0)
+same-length c =
+    let entry = c .before .before .before .before in
+    c .before .loop .inv .same ∙ sym (ap length (entry .pre .0) ∙ length-replicate {A = ℕ} (length (entry .args .old .now)) 0)
 
 returns : tie.Need-returns Inv-loop μ-loop
 returns c = taps-done (c .before .loop .inv) (c .loop-test .left)

@@ -11,7 +11,6 @@ use Rattle.codes.specs.Table.{RowOf, ks, first}
 use Rattle.codes.proofs.LookLaws.{rows-within}
 use Rattle.generator.specs.Work.{Cut}
 use Rattle.generator.proofs.Products.{generated}
-use borrow.Author.Needs.{needs}
 use Rattle.generator.proofs.fill_generator.Statement.{statement}
 use Rattle.generator.proofs.fill_generator.Tie as tie
 
@@ -42,22 +41,35 @@ slice-aggregate-multiply-rows : tie.Need-slice-aggregate-multiply-rows
 slice-aggregate-multiply-rows c = search needs
 
 add-multiply-rows : tie.Need-add-multiply-rows
-add-multiply-rows c = let r = rows-within (c .before .before .before .before .before .before .before .before .before .pre .0 .listed) in let b = c .before .before .before .before .before .before .before .before .before .pre .0 .below in omega arith
+add-multiply-rows c =
+    let at-set-one-arg = c .before .before .before .before .before in
+    let entry = at-set-one-arg .before .before .before .before in
+    let r = rows-within (entry .pre .0 .listed) in
+    let b = entry .pre .0 .below in
+    omega arith
 
 multiply-rows-requires : tie.Need-multiply-rows-requires
 multiply-rows-requires c κs =
-    let w = c .before .before .before .before .before .before .before .before .before .pre in
-    let o = c .before .before .before .before .set-one .ensures in
-    let r = rows _ _ _ (w .0) (c .before .before .before .before .before .before .first-row .ensures) in
-    (lengthened o, omega (arith, o .same, small _ _ _ (w .0) (w .1)), c .before .before .before .before .before .before .before .minimals .ensures, omega arith, omega arith)
+    let at-set-one = c .before .before .before .before in
+    let at-first-row = at-set-one .before .before in
+    let at-minimals = at-first-row .before in
+    let entry = at-minimals .before .before in
+    let w = entry .pre in
+    let o = at-set-one .set-one .ensures in
+    let r = rows _ _ _ (w .0) (at-first-row .first-row .ensures) in
+    (lengthened o, omega (arith, o .same, small _ _ _ (w .0) (w .1)), at-minimals .minimals .ensures, omega arith, omega arith)
 
 same-length : tie.Need-same-length
 same-length c = search needs
 
 returns : tie.Need-returns
 returns c =
-    let w = c .before .before .before .before .before .before .before .before .before .before .before .before .pre in
-    generated (w .0) (c .before .before .before .before .before .before .before .before .before .first-row .ensures) (c .before .before .before .before .before .before .before .set-one .ensures .same ∙ w .1) (c .before .before .multiply-rows .ensures)
+    let at-multiply-rows = c .before .before in
+    let at-set-one = at-multiply-rows .before .before .before .before .before in
+    let at-first-row = at-set-one .before .before in
+    let entry = at-first-row .before .before .before in
+    let w = entry .pre in
+    generated (w .0) (at-first-row .first-row .ensures) (at-set-one .set-one .ensures .same ∙ w .1) (at-multiply-rows .multiply-rows .ensures)
 
 pub fill-generator-spec : {M : Type 1} → statement M
 fill-generator-spec =

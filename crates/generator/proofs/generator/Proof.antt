@@ -10,7 +10,6 @@ use Rattle.field.specs.Power.{nOf}
 use Rattle.field.proofs.Range.{sizes}
 use Rattle.codes.specs.Table.{RowOf, ks}
 use Rattle.generator.specs.Generator.{Generator}
-use borrow.Author.Needs.{needs}
 use Rattle.generator.proofs.generator.Statement.{statement}
 use Rattle.generator.proofs.generator.Tie as tie
 
@@ -23,7 +22,8 @@ small w e = let s = sizes (w .listed) in omega arith
 front : (d : ℕ) (s : List ℕ) → d + 1 ≤ 1024 → length s ≡ 1024 → length (take (d + 1) s) ≡ d + 1
 front d s h e = length-take-le (d + 1) s (omega arith)
 
-filled : {m t d d′ : ℕ} {g : List ℕ} (s : List ℕ) → d ≡ d′ → d + 1 ≤ 1024 → length s ≡ 1024 → Generator m t d′ g → Generator m t d (take (d + 1) (g ++ drop (d + 1) s)) × (1024 ≡ length (g ++ drop (d + 1) s))
+filled : {m t d d′ : ℕ} {g : List ℕ} (s : List ℕ) → d ≡ d′ → d + 1 ≤ 1024 → length s ≡ 1024 → Generator m t d′ g
+    → Generator m t d (take (d + 1) (g ++ drop (d + 1) s)) × (1024 ≡ length (g ++ drop (d + 1) s))
 filled {m} {t} {d} {d′} {g} s e h l G = (
   subst (Generator m t d) (sym (take-at g (drop (d + 1) s) (d + 1) (omega (arith, G .long)))) (subst (λ (x : ℕ). Generator m t x g) (sym e) G),
   omega (arith, G .long, length-append g (drop (d + 1) s), length-drop (d + 1) s),
@@ -42,10 +42,16 @@ slice-aggregate-fill-generator : tie.Need-slice-aggregate-fill-generator
 slice-aggregate-fill-generator c = sym (front _ _ (small (c .before .before .pre .0) (c .before .before .pre .1)) (room _ (c .before .word-space .ensures)))
 
 fill-generator-requires : tie.Need-fill-generator-requires
-fill-generator-requires c κs = let p = c .before .before .pre in (p .0, front _ _ (small (p .0) (p .1)) (room _ (c .before .word-space .ensures)) ∙ ap (λ (x : ℕ). x + 1) (p .1))
+fill-generator-requires c κs =
+    let p = c .before .before .pre in
+    (p .0, front _ _ (small (p .0) (p .1)) (room _ (c .before .word-space .ensures)) ∙ ap (λ (x : ℕ). x + 1) (p .1))
 
 returns : tie.Need-returns
-returns c = let p = c .before .before .before .before .pre in filled _ (p .1) (small (p .0) (p .1)) (room _ (c .before .before .before .word-space .ensures)) (c .before .fill-generator .ensures)
+returns c =
+    let at-word-space = c .before .before .before in
+    let entry = at-word-space .before in
+    let p = entry .pre in
+    filled _ (p .1) (small (p .0) (p .1)) (room _ (at-word-space .word-space .ensures)) (c .before .fill-generator .ensures)
 
 pub generator-spec : {M : Type 1} → statement M
 generator-spec =

@@ -27,10 +27,17 @@ mul-multiply : tie.Need-mul-multiply Inv-loop μ-loop
 mul-multiply c = omega arith
 
 shared-slice-read-multiply : tie.Need-shared-slice-read-multiply Inv-loop μ-loop
-shared-slice-read-multiply c = omega (arith, ap length (c .before .before .before .before .before .before .pre .2), minimals-long)
+shared-slice-read-multiply c =
+    let at-loop = c .before .before .before in
+    let entry = at-loop .before .before .before in
+    omega (arith, ap length (entry .pre .2), minimals-long)
 
 multiply-requires : tie.Need-multiply-requires Inv-loop μ-loop
-multiply-requires c κs = let v = c .before .before .before .loop .inv .0 in (v .bits, omega (arith, v .same, c .before .before .before .before .before .before .pre .1))
+multiply-requires c κs =
+    let at-loop = c .before .before .before in
+    let entry = at-loop .before .before .before in
+    let v = at-loop .loop .inv .0 in
+    (v .bits, omega (arith, v .same, entry .pre .1))
 
 add-r : tie.Need-add-r Inv-loop μ-loop
 add-r c = omega arith
@@ -40,8 +47,11 @@ loop-less c = omega arith
 
 loop-again : tie.Need-loop-again Inv-loop μ-loop
 loop-again c =
-    let v = c .before .before .before .before .before .before .loop .inv in
-    (cut-next (c .before .before .before .before .before .before .before .before .before .pre .2) (v .1) (v .0) (c .before .before .multiply .ensures) (c .before .before .multiply .kept .0), omega arith, omega arith)
+    let at-multiply = c .before .before in
+    let at-loop = at-multiply .before .before .before .before in
+    let entry = at-loop .before .before .before in
+    let v = at-loop .loop .inv in
+    (cut-next (entry .pre .2) (v .1) (v .0) (at-multiply .multiply .ensures) (at-multiply .multiply .kept .0), omega arith, omega arith)
 
 same-length : tie.Need-same-length Inv-loop μ-loop
 same-length c = c .before .loop .inv .0 .same

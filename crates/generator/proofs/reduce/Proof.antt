@@ -20,7 +20,8 @@ top : (d : ℕ) (g word : List ℕ) → AreBits word → Down d g word word (len
 top d g word b = record { bits = b; same = refl; left = λ h k. List·getD-eq-default word 0 k; sums = λ L j z. refl }
 
 -- the turn that takes i to i - 1
-turn : {d i : ℕ} {g first word after : List ℕ} → Down d g first word i → d < i → TakenAway d g (i - 1) word after → length after ≡ length word → Down d g first after (i - 1)
+turn : {d i : ℕ} {g first word after : List ℕ} → Down d g first word i → d < i → TakenAway d g (i - 1) word after
+    → length after ≡ length word → Down d g first after (i - 1)
 turn {d} {i} {g} {first} {word} s h t l = down (rw back s) t l
   where
     back : i - 1 + 1 ≡ i
@@ -33,13 +34,21 @@ sub-i : tie.Need-sub-i Inv-loop μ-loop
 sub-i c = omega arith
 
 take-away-requires : tie.Need-take-away-requires Inv-loop μ-loop
-take-away-requires c κs = let p = c .before .before .before .before .before .pre in let v = c .before .before .loop .inv in (v .0 .bits, p .1, p .2, p .3, omega arith, omega (arith, v .0 .same))
+take-away-requires c κs =
+    let entry = c .before .before .before .before .before in
+    let p = entry .pre in
+    let v = c .before .before .loop .inv in
+    (v .0 .bits, p .1, p .2, p .3, omega arith, omega (arith, v .0 .same))
 
 loop-less : tie.Need-loop-less Inv-loop μ-loop
 loop-less c = omega arith
 
 loop-again : tie.Need-loop-again Inv-loop μ-loop
-loop-again c = let v = c .before .before .before .before .before .loop .inv in (turn (v .0) (c .before .before .before .before .loop-test .taken) (c .before .before .take-away .ensures) (c .before .before .take-away .kept .0), omega arith)
+loop-again c =
+    let in-loop = c .before .before .before .before in
+    let at-loop = in-loop .before in
+    let v = at-loop .loop .inv in
+    (turn (v .0) (in-loop .loop-test .taken) (c .before .before .take-away .ensures) (c .before .before .take-away .kept .0), omega arith)
 
 same-length : tie.Need-same-length Inv-loop μ-loop
 same-length c = c .before .loop .inv .0 .same

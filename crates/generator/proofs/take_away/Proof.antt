@@ -1,7 +1,6 @@
 -- The place is cleared by a multiple of g, or is clear already.
 use borrow.Author.Needs.{needs}
 use Rattle.generator.proofs.Division.{taken-away, left-alone}
-use borrow.Author.Needs.{needs}
 use Rattle.generator.proofs.take_away.Statement.{statement}
 use Rattle.generator.proofs.take_away.Tie as tie
 
@@ -18,7 +17,11 @@ same-length : tie.Need-same-length
 same-length c = search needs
 
 returns : tie.Need-returns
-returns c = let p = c .before .before .before .before .before .before .before .before .pre in rw (c .before .before .add-at .ensures) (taken-away (p .0) (p .1) (p .2) (p .4) (p .5) (p .3) (c .before .before .before .before .if1 .taken))
+returns c =
+    let in-if1 = c .before .before .before .before in
+    let entry = in-if1 .before .before .before .before in
+    let p = entry .pre in
+    rw (c .before .before .add-at .ensures) (taken-away (p .0) (p .1) (p .2) (p .4) (p .5) (p .3) (in-if1 .if1 .taken))
 
 returns-2 : tie.Need-returns-2
 returns-2 c = let p = c .before .before .before .before .pre in left-alone (p .0) (p .1) (p .2) (p .4) (p .5) (c .if1 .left)

@@ -24,7 +24,10 @@ shared-slice-read-product : tie.Need-shared-slice-read-product Inv-loop μ-loop
 shared-slice-read-product c = omega (arith, c .before .before .loop .inv .from, c .before .before .loop .inv .filled .same)
 
 product-requires : tie.Need-product-requires Inv-loop μ-loop
-product-requires c κs = let s = c .before .before .before .before .before .before .before in (s .pre .0, s .pre .1, s .pre .4 _ (omega arith))
+product-requires c κs =
+    let at-loop = c .before .before in
+    let entry = at-loop .before .before .before .before .before in
+    (entry .pre .0, entry .pre .1, entry .pre .4 _ (omega arith))
 
 mul-old : tie.Need-mul-old Inv-loop μ-loop
 mul-old c = omega (arith, c .before .before .before .loop .inv .from, c .before .before .before .loop .inv .filled .same)
@@ -45,7 +48,11 @@ loop-less : tie.Need-loop-less Inv-loop μ-loop
 loop-less c = omega (arith, c .before .before .before .before .loop .inv .from, c .before .before .before .before .loop .inv .filled .same)
 
 loop-again : tie.Need-loop-again Inv-loop μ-loop
-loop-again c = mending-next (c .before .before .before .before .loop .inv) (c .before .before .before .loop-test .taken) (c .before .before .before .before .before .before .before .before .before .pre .3) (c .before .product .ensures)
+loop-again c =
+    let in-loop = c .before .before .before in
+    let at-loop = in-loop .before in
+    let entry = at-loop .before .before .before .before .before in
+    mending-next (at-loop .loop .inv) (in-loop .loop-test .taken) (entry .pre .3) (c .before .product .ensures)
 
 same-length : tie.Need-same-length Inv-loop μ-loop
 same-length c = c .before .loop .inv .filled .same

@@ -30,7 +30,10 @@ shared-slice-read-product-2 : tie.Need-shared-slice-read-product-2 Inv-loop μ-l
 shared-slice-read-product-2 c = omega arith
 
 product-requires : tie.Need-product-requires Inv-loop μ-loop
-product-requires c κs = let s = c .before .before .before .before .before .before .before .before in (s .pre .0, s .pre .4 _ (c .before .before .loop-test .taken), s .pre .5 _ (omega arith))
+product-requires c κs =
+    let at-loop = c .before .before .before in
+    let entry = at-loop .before .before .before .before .before in
+    (entry .pre .0, entry .pre .4 _ (c .before .before .loop-test .taken), entry .pre .5 _ (omega arith))
 
 add-i : tie.Need-add-i Inv-loop μ-loop
 add-i c = omega arith

@@ -10,10 +10,17 @@ use Rattle.key.proofs.run_all.Statement.{statement}
 use Rattle.key.proofs.run_all.Tie as tie
 
 abbrev Inv-loop : tie.InvT-loop
-Inv-loop m powers logs t all sigma₀ b₀ at₀ r₀ sigma b at r = (r ≤ 2 * t) × Held m t all r (at .l) (at .gap) (at .q) sigma b × (length sigma ≡ length sigma₀) × (length b ≡ length b₀)
+Inv-loop m powers logs t all sigma₀ b₀ at₀ r₀ sigma b at r =
+    (r ≤ 2 * t) × Held m t all r (at .l) (at .gap) (at .q) sigma b × (length sigma ≡ length sigma₀) × (length b ≡ length b₀)
 
 abbrev μ-loop : tie.MeasureT-loop
 μ-loop m powers logs t all sigma₀ b₀ at₀ r₀ sigma b at r = 2 * t - r
+
+-- what was lent, seen from the loop
+abbrev lent : tie.At-loop Inv-loop μ-loop → tie.Start Inv-loop μ-loop
+lent c =
+    let known-slices = c .before .before .before in
+    known-slices .before .before .before
 
 slice-write-sigma : tie.Need-slice-write-sigma Inv-loop μ-loop
 slice-write-sigma c = omega (arith, space-long (c .before .before .before .before .before .pre .4))
@@ -22,22 +29,36 @@ slice-write-b : tie.Need-slice-write-b Inv-loop μ-loop
 slice-write-b c = omega (arith, space-long (c .before .before .before .before .before .pre .5))
 
 loop-holds : tie.Need-loop-holds Inv-loop μ-loop
-loop-holds c = let s = c .before .before .before .before .before in (omega arith, held-start (s .pre .0 .listed) (s .pre .1) (s .pre .3) (s .pre .4) (s .pre .5), refl, refl)
+loop-holds c =
+    let entry = c .before .before .before .before .before in
+    (omega arith, held-start (entry .pre .0 .listed) (entry .pre .1) (entry .pre .3) (entry .pre .4) (entry .pre .5), refl, refl)
 
 mul-loop : tie.Need-mul-loop Inv-loop μ-loop
 mul-loop c = omega arith
 
 step-requires : tie.Need-step-requires Inv-loop μ-loop
-step-requires c κs = let s = c .before .before .before .before .before .before .before .before .before in (s .pre .0, s .pre .1, s .pre .2, c .before .before .loop-test .taken, c .before .before .before .loop .inv .1)
+step-requires c κs =
+    let at-loop = c .before .before .before in
+    let entry = lent at-loop in
+    (entry .pre .0, entry .pre .1, entry .pre .2, c .before .before .loop-test .taken, at-loop .loop .inv .1)
 
 same-length : tie.Need-same-length Inv-loop μ-loop
-same-length c = c .before .before .before .before .before .step .kept .1 .1 .1 .1 .1 .1 .1 .0 ∙ c .before .before .before .before .before .before .before .before .before .loop .inv .2 ∙ simp length-set
+same-length c =
+    let at-step = c .before .before .before .before .before in
+    let at-loop = at-step .before .before .before .before in
+    at-step .step .kept .1 .1 .1 .1 .1 .1 .1 .0 ∙ at-loop .loop .inv .2 ∙ simp length-set
 
 same-length-2 : tie.Need-same-length-2 Inv-loop μ-loop
-same-length-2 c = c .before .before .before .before .before .step .kept .1 .1 .1 .1 .1 .1 .1 .1 .0 ∙ c .before .before .before .before .before .before .before .before .before .loop .inv .3 ∙ simp length-set
+same-length-2 c =
+    let at-step = c .before .before .before .before .before in
+    let at-loop = at-step .before .before .before .before in
+    at-step .step .kept .1 .1 .1 .1 .1 .1 .1 .1 .0 ∙ at-loop .loop .inv .3 ∙ simp length-set
 
 returns : tie.Need-returns Inv-loop μ-loop
-returns c = solved-over (c .before .before .before .before .before .step .ensures) (c .before .before .before .before .before .before .before .before .loop-test .taken) (c .if1 .taken)
+returns c =
+    let at-step = c .before .before .before .before .before in
+    let in-loop = at-step .before .before .before in
+    solved-over (at-step .step .ensures) (in-loop .loop-test .taken) (c .if1 .taken)
 
 add-r : tie.Need-add-r Inv-loop μ-loop
 add-r c = omega arith
@@ -46,7 +67,14 @@ loop-less : tie.Need-loop-less Inv-loop μ-loop
 loop-less c = omega arith
 
 loop-again : tie.Need-loop-again Inv-loop μ-loop
-loop-again c = (omega arith, c .before .before .before .before .before .step .ensures .held (c .if1 .left), c .before .before .before .before .before .step .kept .1 .1 .1 .1 .1 .1 .1 .0 ∙ c .before .before .before .before .before .before .before .before .before .loop .inv .2, c .before .before .before .before .before .step .kept .1 .1 .1 .1 .1 .1 .1 .1 .0 ∙ c .before .before .before .before .before .before .before .before .before .loop .inv .3)
+loop-again c =
+    let at-step = c .before .before .before .before .before in
+    let at-loop = at-step .before .before .before .before in (
+      omega arith,
+      at-step .step .ensures .held (c .if1 .left),
+      at-step .step .kept .1 .1 .1 .1 .1 .1 .1 .0 ∙ at-loop .loop .inv .2,
+      at-step .step .kept .1 .1 .1 .1 .1 .1 .1 .1 .0 ∙ at-loop .loop .inv .3,
+    )
 
 same-length-3 : tie.Need-same-length-3 Inv-loop μ-loop
 same-length-3 c = c .before .loop .inv .2 ∙ simp length-set
@@ -55,7 +83,11 @@ same-length-4 : tie.Need-same-length-4 Inv-loop μ-loop
 same-length-4 c = c .before .loop .inv .3 ∙ simp length-set
 
 returns-2 : tie.Need-returns-2 Inv-loop μ-loop
-returns-2 c = let z : c .before .loop .r ≡ 2 * c .before .before .before .before .before .before .before .args .t = omega (arith, c .before .loop .inv .0, c .loop-test .left) in solved-done (c .before .loop .inv .1) z
+returns-2 c =
+    let at-loop = c .before in
+    let entry = lent at-loop in
+    let z : at-loop .loop .r ≡ 2 * entry .args .t = omega (arith, at-loop .loop .inv .0, c .loop-test .left) in
+    solved-done (at-loop .loop .inv .1) z
 
 pub run-all-spec : {M : Type 1} → statement M
 run-all-spec =

@@ -37,7 +37,11 @@ slice-read-s : tie.Need-slice-read-s Inv-loop μ-loop
 slice-read-s c = simp length-set (omega (arith, c .before .before .before .loop .inv .same))
 
 product-requires : tie.Need-product-requires Inv-loop μ-loop
-product-requires c κs = let s = c .before .before .before .before .before .before .before .before in let b = squaring-below (c .before .before .before .loop .inv) (omega arith) (s .pre .2 _ (c .before .before .loop-test .taken)) (c .before .before .before .loop .i) (omega arith) in (s .pre .0, b, b)
+product-requires c κs =
+    let at-loop = c .before .before .before in
+    let entry = at-loop .before .before .before .before .before in
+    let b = squaring-below (at-loop .loop .inv) (omega arith) (entry .pre .2 _ (c .before .before .loop-test .taken)) (at-loop .loop .i) (omega arith) in
+    (entry .pre .0, b, b)
 
 mul-all-4 : tie.Need-mul-all-4 Inv-loop μ-loop
 mul-all-4 c = omega (arith, c .before .before .before .before .loop .inv .same)
@@ -58,7 +62,12 @@ loop-less : tie.Need-loop-less Inv-loop μ-loop
 loop-less c = omega (arith, c .before .before .before .before .loop .inv .same)
 
 loop-again : tie.Need-loop-again Inv-loop μ-loop
-loop-again c = let s = c .before .before .before .before .before .before .before .before .before in squaring-next (s .pre .0 .listed) (c .before .before .before .before .loop .inv) (c .before .before .before .loop-test .taken) (s .pre .4) (s .pre .2 _ (c .before .before .before .loop-test .taken)) (c .product .ensures)
+loop-again c =
+    let in-loop = c .before .before .before in
+    let at-loop = in-loop .before in
+    let entry = at-loop .before .before .before .before .before in
+    squaring-next (entry .pre .0 .listed) (at-loop .loop .inv) (in-loop .loop-test .taken) (entry .pre .4)
+    (entry .pre .2 _ (in-loop .loop-test .taken)) (c .product .ensures)
 
 same-length : tie.Need-same-length Inv-loop μ-loop
 same-length c = c .before .loop .inv .same

@@ -81,13 +81,32 @@ put-decimal-slice-write-out-2 : (t : ℕ) → put-decimal-lts.Need-slice-write-o
   put-decimal-below t,
   put-decimal.Post,
 ) (put-decimal-at t) put-decimal.Post
-put-decimal-slice-write-out-2 t c = omega (arith, decimal-longer (c .before .before .before .before .if1 .left), c .before .before .put-decimal .ensures .next-is, c .before .before .put-decimal .kept .0, c .before .before .before .before .before .before .pre .1)
+put-decimal-slice-write-out-2 t c =
+    let written = c .before .before in
+    let test = written .before .before in
+    omega (
+      arith,
+      decimal-longer (test .if1 .left),
+      written .put-decimal .ensures .next-is,
+      written .put-decimal .kept .0,
+      test .before .before .pre .1,
+    )
 
 put-decimal-add-result-2 : (t : ℕ) → put-decimal-lts.Need-add-result-2 (
   put-decimal-below t,
   put-decimal.Post,
 ) (put-decimal-at t) put-decimal.Post
-put-decimal-add-result-2 t c = record { fits = omega (arith, decimal-longer (c .before .before .before .before .if1 .left), c .before .before .put-decimal .ensures .next-is, c .before .before .before .before .before .before .pre .1) }
+put-decimal-add-result-2 t c =
+    let written = c .before .before in
+    let test = written .before .before in
+    record {
+      fits = omega (
+        arith,
+        decimal-longer (test .if1 .left),
+        written .put-decimal .ensures .next-is,
+        test .before .before .pre .1,
+      );
+    }
 
 put-decimal-same-length-2 : (t : ℕ) → put-decimal-lts.Need-same-length-2 (
   put-decimal-below t,
@@ -99,7 +118,9 @@ put-decimal-returns-2 : (t : ℕ) → put-decimal-lts.Need-returns-2 (
   put-decimal-below t,
   put-decimal.Post,
 ) (put-decimal-at t) put-decimal.Post
-put-decimal-returns-2 t c = rw (decimal-more (c .before .before .before .before .if1 .left)) (put-then (c .before .before .put-decimal .ensures) (put-one _ _ _))
+put-decimal-returns-2 t c =
+    rw (decimal-more (c .before .before .before .before .if1 .left))
+    (put-then (c .before .before .put-decimal .ensures) (put-one _ _ _))
 
 pub +put-decimal-spec : {M : Type 1} → statement M
 +put-decimal-spec = close μ-put-decimal λ t. put-decimal-lts.spec (

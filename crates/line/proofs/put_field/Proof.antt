@@ -9,20 +9,39 @@ put-decimal-requires : tie.Need-put-decimal-requires
 put-decimal-requires c κs = omega (arith, decimal-fits {n = c .before .before .before .args .n} (omega arith))
 
 copy-at-requires : tie.Need-copy-at-requires
-copy-at-requires c κs = omega (arith, decimal-fits {n = c .before .before .before .before .before .before .before .args .n} (omega arith), c .before .before .before .put-decimal .ensures .next-is, c .before .before .before .put-decimal .kept .0)
+copy-at-requires c κs =
+    let at-put-decimal = c .before .before .before in
+    let entry = at-put-decimal .before .before .before .before in
+    omega (arith, decimal-fits {n = entry .args .n} (omega arith), at-put-decimal .put-decimal .ensures .next-is, at-put-decimal .put-decimal .kept .0)
 
 add-result : tie.Need-add-result
-add-result c = record { fits = omega (arith, decimal-fits {n = c .before .before .before .before .before .before .before .before .before .before .args .n} (omega arith), c .before .before .before .before .before .before .put-decimal .ensures .next-is, c .before .before .before .before .before .before .put-decimal .kept .0, c .before .before .before .before .before .before .before .before .before .before .pre) }
+add-result c =
+    let at-out = c .before .before .before .before .before in
+    let at-put-decimal = at-out .before in
+    let entry = at-put-decimal .before .before .before .before in
+    record {
+      fits = omega (
+        arith,
+        decimal-fits {n = entry .args .n} (omega arith),
+        at-put-decimal .put-decimal .ensures .next-is,
+        at-put-decimal .put-decimal .kept .0,
+        entry .pre,
+      );
+    }
 
 same-length : tie.Need-same-length
 same-length c = search needs
 
 returns : tie.Need-returns
 returns c =
-    let d = c .before .before .before .before .before .before .put-decimal in
-    let f = decimal-fits {n = c .before .before .before .before .before .before .before .before .before .before .args .n} (omega arith) in
+    let at-copy-at = c .before .before in
+    let at-put-decimal = at-copy-at .before .before .before .before in
+    let entry = at-put-decimal .before .before .before .before in
+    let d = at-put-decimal .put-decimal in
+    let f = decimal-fits {n = entry .args .n} (omega arith) in
     record {
-      put = put-then (d .ensures) (put-copied (d .result) (omega (arith, f, d .ensures .next-is, d .kept .0, c .before .before .before .before .before .before .before .before .before .before .pre)) (c .before .before .copy-at .ensures));
+      put = put-then (d .ensures)
+          (put-copied (d .result) (omega (arith, f, d .ensures .next-is, d .kept .0, entry .pre)) (at-copy-at .copy-at .ensures));
       most = omega (arith, f, d .ensures .next-is);
     }
 

@@ -44,7 +44,17 @@ same-length : tie.Need-same-length
 same-length c = search needs
 
 returns : tie.Need-returns
-returns c = read-line _ (c .before .before .before .before .before .before .before .before .before .before .before .before .before .before .before .before .before .before .before .before .before .before .before .before .put-field .ensures) (c .before .before .before .before .before .before .before .before .before .before .before .before .before .before .before .before .before .before .put-field2 .ensures) (c .before .before .before .before .before .before .before .before .before .before .before .before .put-field3 .ensures) (c .before .before .before .before .before .before .before .put-field4 .ensures) (c .before .before .put-field5 .ensures) (c .before .before .before .before .before .before .before .before .before .before .before .before .before .before .before .before .before .before .before .before .before .before .before .before .before .before .before .before .pre)
+returns c =
+    let at-put-field5 = c .before .before in
+    let at-put-field4 = at-put-field5 .before .before .before .before .before in
+    let at-put-field3 = at-put-field4 .before .before .before .before .before in
+    let at-out2 = at-put-field3 .before .before .before .before .before in
+    let at-put-field2 = at-out2 .before in
+    let at-out = at-put-field2 .before .before .before .before .before in
+    let at-put-field = at-out .before in
+    let entry = at-put-field .before .before .before .before in
+    read-line _ (at-put-field .put-field .ensures) (at-put-field2 .put-field2 .ensures) (at-put-field3 .put-field3 .ensures)
+    (at-put-field4 .put-field4 .ensures) (at-put-field5 .put-field5 .ensures) (entry .pre)
 
 pub write-read-spec : {M : Type 1} → statement M
 write-read-spec =

@@ -26,7 +26,12 @@ same-length : tie.Need-same-length
 same-length c = search needs
 
 returns : tie.Need-returns
-returns c = refused-line _ (c .before .before .before .before .before .before .before .before .before .before .number .ensures) (c .before .before .before .before .before .before .before .put-field .ensures) (c .before .before .put-field2 .ensures) (c .before .before .before .before .before .before .before .before .before .before .before .before .pre)
+returns c =
+    let at-put-field2 = c .before .before in
+    let at-put-field = at-put-field2 .before .before .before .before .before in
+    let at-number = at-put-field .before .before .before in
+    let entry = at-number .before .before in
+    refused-line _ (at-number .number .ensures) (at-put-field .put-field .ensures) (at-put-field2 .put-field2 .ensures) (entry .pre)
 
 pub write-refused-spec : {M : Type 1} → statement M
 write-refused-spec =

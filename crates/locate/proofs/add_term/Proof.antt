@@ -18,13 +18,19 @@ sub-step : tie.Need-sub-step
 sub-step c = let s = c .before .before .before .before in omega (arith, around-below (s .pre .0 .listed) (s .args .j) (c .n-of .ensures) refl, c .n-of .ensures)
 
 add-multiples-requires : tie.Need-add-multiples-requires
-add-multiples-requires c κs = let s = c .before .before .before .before .before in let l = around-below (s .pre .0 .listed) (s .args .j) (c .before .n-of .ensures) refl in (s .pre .0, s .pre .1, omega (arith, l, c .before .n-of .ensures), omega (arith, s .pre .2, c .before .n-of .ensures))
+add-multiples-requires c κs =
+    let entry = c .before .before .before .before .before in
+    let l = around-below (entry .pre .0 .listed) (entry .args .j) (c .before .n-of .ensures) refl in
+    (entry .pre .0, entry .pre .1, omega (arith, l, c .before .n-of .ensures), omega (arith, entry .pre .2, c .before .n-of .ensures))
 
 same-length : tie.Need-same-length
 same-length c = search needs
 
 returns : tie.Need-returns
-returns c = let s = c .before .before .before .before .before .before .before .before in term-added (s .pre .0 .listed) (s .args .s) (s .args .j) (c .before .before .before .before .n-of .ensures) (c .before .before .add-multiples .ensures)
+returns c =
+    let at-n-of = c .before .before .before .before in
+    let entry = at-n-of .before .before .before .before in
+    term-added (entry .pre .0 .listed) (entry .args .s) (entry .args .j) (at-n-of .n-of .ensures) (c .before .before .add-multiples .ensures)
 
 pub add-term-spec : {M : Type 1} → statement M
 add-term-spec =

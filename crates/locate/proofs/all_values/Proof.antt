@@ -16,7 +16,10 @@ n-of-requires : tie.Need-n-of-requires Inv-loop μ-loop
 n-of-requires c κs = c .before .before .before .before .pre .0 .listed
 
 clear-first-requires : tie.Need-clear-first-requires Inv-loop μ-loop
-clear-first-requires c κs = omega (arith, c .before .before .before .before .before .before .pre .3, c .before .n-of .ensures)
+clear-first-requires c κs =
+    let at-n-of = c .before in
+    let entry = at-n-of .before .before .before .before .before in
+    omega (arith, entry .pre .3, at-n-of .n-of .ensures)
 
 loop-holds : tie.Need-loop-holds Inv-loop μ-loop
 loop-holds c = valuing-start _ _ (c .before .before .before .before .n-of .ensures) (c .before .before .clear-first .ensures)
@@ -28,7 +31,15 @@ shared-slice-read-s : tie.Need-shared-slice-read-s Inv-loop μ-loop
 shared-slice-read-s c = omega arith
 
 add-term-requires : tie.Need-add-term-requires Inv-loop μ-loop
-add-term-requires c κs = let s = c .before .before .before .before .before .before .before .before .before .before .before .before .before in (s .pre .0, s .pre .2 _ (c .before .before .loop-test .taken), omega (arith, s .pre .3, c .before .before .before .loop .inv .filled .same, c .before .before .before .before .before .before .clear-first .ensures .same))
+add-term-requires c κs =
+    let at-loop = c .before .before .before in
+    let at-clear-first = at-loop .before .before .before in
+    let at-n-of = at-clear-first .before .before in
+    let entry = at-n-of .before .before .before .before .before in (
+      entry .pre .0,
+      entry .pre .2 _ (c .before .before .loop-test .taken),
+      omega (arith, entry .pre .3, at-loop .loop .inv .filled .same, at-clear-first .clear-first .ensures .same),
+    )
 
 add-j : tie.Need-add-j Inv-loop μ-loop
 add-j c = omega arith
@@ -37,13 +48,22 @@ loop-less : tie.Need-loop-less Inv-loop μ-loop
 loop-less c = omega arith
 
 loop-again : tie.Need-loop-again Inv-loop μ-loop
-loop-again c = let s = c .before .before .before .before .before .before .before .before .before .before .before .before .before .before .before .before in valuing-next (s .pre .0 .listed) (c .before .before .before .before .before .before .loop .inv) (c .before .before .before .before .before .loop-test .taken) (s .pre .2 _ (c .before .before .before .before .before .loop-test .taken)) (c .before .before .add-term .ensures)
+loop-again c =
+    let in-loop = c .before .before .before .before .before in
+    let at-loop = in-loop .before in
+    let at-n-of = at-loop .before .before .before .before .before in
+    let entry = at-n-of .before .before .before .before .before in
+    valuing-next (entry .pre .0 .listed) (at-loop .loop .inv) (in-loop .loop-test .taken)
+    (entry .pre .2 _ (in-loop .loop-test .taken)) (c .before .before .add-term .ensures)
 
 same-length : tie.Need-same-length Inv-loop μ-loop
 same-length c = c .before .loop .inv .filled .same ∙ c .before .before .before .before .clear-first .ensures .same
 
 returns : tie.Need-returns Inv-loop μ-loop
-returns c = valuing-done (c .before .before .before .before .before .before .n-of .ensures) (c .before .before .before .before .clear-first .ensures) (c .before .loop .inv) (c .loop-test .left)
+returns c =
+    let at-clear-first = c .before .before .before .before in
+    let at-n-of = at-clear-first .before .before in
+    valuing-done (at-n-of .n-of .ensures) (at-clear-first .clear-first .ensures) (c .before .loop .inv) (c .loop-test .left)
 
 pub all-values-spec : {M : Type 1} → statement M
 all-values-spec =

@@ -21,28 +21,37 @@ slice-aggregate-fill-logs : tie.Need-slice-aggregate-fill-logs
 slice-aggregate-fill-logs c = search needs
 
 fill-logs-requires : tie.Need-fill-logs-requires
-fill-logs-requires c κs = let p = c .before .before .before .before .before .before .before .pre in (p .0, p .1, c .before .logs-space .ensures)
+fill-logs-requires c κs =
+    let at-places-space = c .before .before .before .before in
+    let entry = at-places-space .before .before .before in
+    let p = entry .pre in
+    (p .0, p .1, c .before .logs-space .ensures)
 
 space-requires : tie.Need-space-requires
 space-requires c κs = search needs
 
-slice-aggregate-find : tie.Need-slice-aggregate-find
-slice-aggregate-find c = search needs
+slice-aggregate-find-places : tie.Need-slice-aggregate-find-places
+slice-aggregate-find-places c = search needs
 
-slice-aggregate-find-2 : tie.Need-slice-aggregate-find-2
-slice-aggregate-find-2 c = search needs
+slice-aggregate-find-places-2 : tie.Need-slice-aggregate-find-places-2
+slice-aggregate-find-places-2 c = search needs
 
-slice-aggregate-find-3 : tie.Need-slice-aggregate-find-3
-slice-aggregate-find-3 c = search needs
+slice-aggregate-find-places-3 : tie.Need-slice-aggregate-find-places-3
+slice-aggregate-find-places-3 c = search needs
 
-find-requires : tie.Need-find-requires
-find-requires c κs = search needs
+find-places-requires : tie.Need-find-places-requires
+find-places-requires c κs = search needs
 
 returns-2 : tie.Need-returns-2
-returns-2 c = record { tells = c .before .before .before .find .ensures .none (c .if2 .taken) }
+returns-2 c = record { tells = c .before .before .before .find-places .ensures .none (c .if2 .taken) }
 
 returns-3 : tie.Need-returns-3
-returns-3 c = record { tells = (omega (arith, c .before .before .before .before .before .before .before .before .before .before .before .before .before .before .before .before .before .pre .2, c .if2 .left), c .before .before .before .find .ensures .some (c .if2 .left)) }
+returns-3 c =
+    let at-find-places = c .before .before .before in
+    let at-logs2 = at-find-places .before .before .before .before .before in
+    let at-all-zero = at-logs2 .before .before .before .before .before in
+    let entry = at-all-zero .before .before .before .before in
+    record { tells = (omega (arith, entry .pre .2, c .if2 .left), at-find-places .find-places .ensures .some (c .if2 .left)) }
 
 pub locate-spec : {M : Type 1} → statement M
 locate-spec =
@@ -55,9 +64,9 @@ locate-spec =
     slice-aggregate-fill-logs
     fill-logs-requires
     space-requires
-    slice-aggregate-find
-    slice-aggregate-find-2
-    slice-aggregate-find-3
-    find-requires
+    slice-aggregate-find-places
+    slice-aggregate-find-places-2
+    slice-aggregate-find-places-3
+    find-places-requires
     returns-2
     returns-3)

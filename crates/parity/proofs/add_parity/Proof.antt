@@ -10,7 +10,6 @@ use Rattle.bits.specs.Bits.{AreBits, addedAt}
 use Rattle.bits.proofs.Turns.{copied-front}
 use Rattle.generator.specs.Work.{Reduced}
 use Rattle.parity.proofs.Parity.{with-parity}
-use borrow.Author.Needs.{needs}
 use Rattle.parity.proofs.add_parity.Statement.{statement}
 use Rattle.parity.proofs.add_parity.Tie as tie
 
@@ -27,6 +26,31 @@ front-long d left rest h = ap length (front d left rest h) ∙ length-take-le d 
 reaches : (d : ℕ) (left rest : List ℕ) → d ≤ length left → d ≤ length (left ++ rest)
 reaches d left rest h = omega (arith, length-append left rest)
 
+-- what the function was lent, seen from past the copying
+abbrev entry : tie.After-copy-at → tie.Start
+entry c =
+    let at-word-space = c .before .before .before in
+    at-word-space .before .before .before
+
+copied : (c : tie.After-copy-at) → take (length (entry c .args .word .now)) (c .copy-at .last .0) ≡ entry c .args .word .now
+copied c = copied-front _ (entry c .args .word .now) _ (c .copy-at .ensures)
+
+-- past the division: the copy, what is left of the word in it, and what stands behind that
+abbrev at-copy : tie.After-reduce → tie.After-copy-at
+at-copy c = c .before .before .before
+
+abbrev left : tie.After-reduce → List ℕ
+left c = c .reduce .last .0
+
+abbrev rest : tie.After-reduce → List ℕ
+rest c = drop (length (entry (at-copy c) .args .word .now)) (at-copy c .copy-at .last .0)
+
+long : (c : tie.After-reduce) → length (left c) ≡ length (entry (at-copy c) .args .word .now)
+long c = c .reduce .kept .0 ∙ ap length (copied (at-copy c))
+
+reached : (c : tie.After-reduce) → entry (at-copy c) .args .d ≤ length (left c)
+reached c = rw (long c) (entry (at-copy c) .pre .fits)
+
 word-space-requires : tie.Need-word-space-requires
 word-space-requires c κs = search needs
 
@@ -40,37 +64,39 @@ array-borrow-prefix-space : tie.Need-array-borrow-prefix-space
 array-borrow-prefix-space c = search needs
 
 slice-aggregate-reduce : tie.Need-slice-aggregate-reduce
-slice-aggregate-reduce c = sym (ap length (copied-front _ (c .before .before .before .before .before .before .before .before .args .word .now) _ (c .before .before .copy-at .ensures)))
+slice-aggregate-reduce c = sym (ap length (copied (c .before .before)))
 
 reduce-requires : tie.Need-reduce-requires
-reduce-requires c κs = let p = c .before .before .before .before .before .before .before .before .pre in (subst AreBits (sym (copied-front _ (c .before .before .before .before .before .before .before .before .args .word .now) _ (c .before .before .copy-at .ensures))) (p .0), p .1, p .2, p .3)
+reduce-requires c κs =
+    let at-copy-at = c .before .before in
+    let p = entry at-copy-at .pre in
+    (subst AreBits (sym (copied at-copy-at)) (p .word-bits), p .g-bits, p .g-long, p .g-top)
 
 array-share-prefix-space : tie.Need-array-share-prefix-space
 array-share-prefix-space c =
-    let l = c .before .before .reduce .kept .0 ∙ ap length (copied-front _ (c .before .before .before .before .before .before .before .before .before .before .before .args .word .now) _ (c .before .before .before .before .before .copy-at .ensures)) in
-    reaches (c .before .before .before .before .before .before .before .before .before .before .before .args .d) (c .before .before .reduce .last .0) (drop (length (c .before .before .before .before .before .before .before .before .before .before .before .args .word .now)) (c .before .before .before .before .before .copy-at .last .0)) (rw l (c .before .before .before .before .before .before .before .before .before .before .before .pre .5))
+    let at-reduce = c .before .before in
+    reaches _ (left at-reduce) (rest at-reduce) (reached at-reduce)
 
 slice-aggregate-add-at : tie.Need-slice-aggregate-add-at
 slice-aggregate-add-at c =
-    let l = c .before .before .before .reduce .kept .0 ∙ ap length (copied-front _ (c .before .before .before .before .before .before .before .before .before .before .before .before .args .word .now) _ (c .before .before .before .before .before .before .copy-at .ensures)) in
-    sym (front-long (c .before .before .before .before .before .before .before .before .before .before .before .before .args .d) (c .before .before .before .reduce .last .0) (drop (length (c .before .before .before .before .before .before .before .before .before .before .before .before .args .word .now)) (c .before .before .before .before .before .before .copy-at .last .0)) (rw l (c .before .before .before .before .before .before .before .before .before .before .before .before .pre .5)))
+    let at-reduce = c .before .before .before in
+    sym (front-long _ (left at-reduce) (rest at-reduce) (reached at-reduce))
 
 add-at-requires : tie.Need-add-at-requires
 add-at-requires c κs =
-    let l = c .before .before .before .reduce .kept .0 ∙ ap length (copied-front _ (c .before .before .before .before .before .before .before .before .before .before .before .before .args .word .now) _ (c .before .before .before .before .before .before .copy-at .ensures)) in
-    let h = front-long (c .before .before .before .before .before .before .before .before .before .before .before .before .args .d) (c .before .before .before .reduce .last .0) (drop (length (c .before .before .before .before .before .before .before .before .before .before .before .before .args .word .now)) (c .before .before .before .before .before .before .copy-at .last .0)) (omega (arith, l, c .before .before .before .before .before .before .before .before .before .before .before .before .pre .5)) in
-    omega (arith, h, c .before .before .before .before .before .before .before .before .before .before .before .before .pre .5)
+    let at-reduce = c .before .before .before in
+    omega (arith, front-long _ (left at-reduce) (rest at-reduce) (reached at-reduce), entry (at-copy at-reduce) .pre .fits)
 
 same-length : tie.Need-same-length
 same-length c = search needs
 
 returns : tie.Need-returns
 returns c =
-    let p = c .before .before .before .before .before .before .before .before .before .before .before .before .before .before .before .pre in
-    let e = copied-front _ (c .before .before .before .before .before .before .before .before .before .before .before .before .before .before .before .args .word .now) _ (c .before .before .before .before .before .before .before .before .before .copy-at .ensures) in
-    let r = c .before .before .before .before .before .before .reduce in
-    let l = r .kept .0 ∙ ap length e in
-    with-parity (p .0) (divided e (r .ensures)) l (p .5) (c .before .before .add-at .ensures ∙ ap (addedAt (c .before .before .before .before .before .before .before .before .before .before .before .before .before .before .before .args .word .now) 0) (front (c .before .before .before .before .before .before .before .before .before .before .before .before .before .before .before .args .d) (c .before .before .before .before .before .before .reduce .last .0) (drop (length (c .before .before .before .before .before .before .before .before .before .before .before .before .before .before .before .args .word .now)) (c .before .before .before .before .before .before .before .before .before .copy-at .last .0)) (rw l (p .5))))
+    let at-add-at = c .before .before in
+    let at-reduce = at-add-at .before .before .before .before in
+    let start = entry (at-copy at-reduce) in
+    with-parity (start .pre .word-bits) (divided (copied (at-copy at-reduce)) (at-reduce .reduce .ensures)) (long at-reduce) (start .pre .fits)
+    (at-add-at .add-at .ensures ∙ ap (addedAt (start .args .word .now) 0) (front _ (left at-reduce) (rest at-reduce) (reached at-reduce)))
 
 pub add-parity-spec : {M : Type 1} → statement M
 add-parity-spec =

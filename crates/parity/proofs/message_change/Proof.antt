@@ -32,7 +32,13 @@ add-at-requires-2 : tie.Need-add-at-requires-2
 add-at-requires-2 c κs = search needs
 
 returns : tie.Need-returns
-returns c = let p = c .before .before .before .before .before .before .before .before .before .before .pre in message-changed (p .0) (p .1) (p .3) (p .4) (c .before .before .before .before .before .before .before .word-space .ensures) (c .before .before .before .before .before .add-at .ensures) (c .before .add-at2 .ensures)
+returns c =
+    let at-add-at = c .before .before .before .before .before in
+    let at-word-space = at-add-at .before .before in
+    let entry = at-word-space .before .before .before in
+    let p = entry .pre in
+    message-changed (p .in-word) (p .in-room) (p .word-bits) (p .stretch-bits) (at-word-space .word-space .ensures) (at-add-at .add-at .ensures)
+    (c .before .add-at2 .ensures)
 
 pub message-change-spec : {M : Type 1} → statement M
 message-change-spec =

@@ -1,40 +1,42 @@
--- What looking up tells decides.
-use mathlib.Core.Path.{_∙_, sym}
-use Rattle.codes.proofs.LookLaws.{looked, accepted}
-use Rattle.splice.proofs.SpliceLaws.{splice-early}
+-- The checks, then the stretch.
+use Rattle.sheet.proofs.VerdictLaws.{always}
+use Rattle.codes.proofs.LookLaws.{passed-known, passed-checks, on-passed, on-refused}
+use Rattle.splice.proofs.SpliceLaws.{splice-ready}
 use borrow.Author.Needs.{needs}
 use Rattle.splice.proofs.splice.Statement.{statement}
 use Rattle.splice.proofs.splice.Tie as tie
 
-look-up-requires : tie.Need-look-up-requires
-look-up-requires c κs = search needs
+checks-requires : tie.Need-checks-requires
+checks-requires c κs = search needs
 
-enum-told : tie.Need-enum-told
-enum-told c = search needs
+enum-known-checked : tie.Need-enum-known-checked
+enum-known-checked c = search needs
 
-splice-listed-requires : tie.Need-splice-listed-requires
-splice-listed-requires c κs = let l = looked _ _ _ (sym (c .enum-told .given .1) ∙ c .before .before .look-up .ensures) in accepted (l .0) (l .2)
+spliced-requires : tie.Need-spliced-requires
+spliced-requires c κs =
+    let passed = c .before in
+    let e = passed .checked .given .1 in
+    let p = passed .before .before .checks .ensures in
+    splice-ready _ _ _ (passed-known e p) (passed-checks e p)
 
-enum-known-look : tie.Need-enum-known-look
-enum-known-look c = search needs
-
-refused-requires : tie.Need-refused-requires
-refused-requires c κs = search needs
+enum-known-checked-2 : tie.Need-enum-known-checked-2
+enum-known-checked-2 c = search needs
 
 returns : tie.Need-returns
-returns c = c .splice-listed .ensures
+returns c =
+    let passed = c .before .before in
+    on-passed (passed .checked .given .1) (passed .before .before .checks .ensures) (always (c .spliced .ensures))
 
 returns-2 : tie.Need-returns-2
-returns-2 c = splice-early _ (looked _ _ _ (sym (c .before .before .look .given .1) ∙ c .before .before .before .before .look-up .ensures)) (c .refused .ensures .0) (c .refused .ensures .1)
+returns-2 c = on-refused (c .before .checked2 .given .1) (c .before .before .before .checks .ensures)
 
 pub splice-spec : {M : Type 1} → statement M
 splice-spec =
     tie.close
     (tie.spec
-    look-up-requires
-    enum-told
-    splice-listed-requires
-    enum-known-look
-    refused-requires
+    checks-requires
+    enum-known-checked
+    spliced-requires
+    enum-known-checked-2
     returns
     returns-2)

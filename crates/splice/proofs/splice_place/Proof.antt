@@ -1,5 +1,6 @@
 -- The place is written, and added to the sums, where it holds something else.
 use mathlib.Core.Path.{refl}
+use native.Mathlib.Omega.{arith}
 use Rattle.splice.proofs.SpliceLaws.{place-kept}
 use borrow.Author.Needs.{needs}
 use Rattle.splice.proofs.splice_place.Statement.{statement}
@@ -21,7 +22,7 @@ same-length-2 : tie.Need-same-length-2
 same-length-2 c = search needs
 
 returns : tie.Need-returns
-returns c = record { is-bits = refl; same = λ e. absurd (c .before .before .before .before .if1 .taken e); changed = λ n. c .before .before .add-place .ensures }
+returns c = record { is-bits = refl; same = λ e. absurd (omega arith); changed = λ n. c .before .before .add-place .ensures }
 
 returns-2 : tie.Need-returns-2
 returns-2 c = place-kept _ _ (c .if1 .left)

@@ -24,10 +24,17 @@ add-splice-place c = omega arith
 
 splice-place-requires : tie.Need-splice-place-requires Inv-loop μ-loop
 splice-place-requires c κs =
-    let p = c .before .before .before .before .before .before .before .before .before .pre in
-    let v = c .before .before .before .before .loop .inv in
-    let l = stretch-long v (omega (arith, v .within, p .2, p .3)) in
-    (p .0, p .1, omega (arith, p .2), omega (arith, p .2, p .3, l), omega (arith, p .4, v .filled .same))
+    let turn = c .before .before .before .before in
+    let p = turn .before .before .before .before .before .pre in
+    let v = turn .loop .inv in
+    let long = stretch-long v (omega (arith, v .within, p .ends, p .bits-room)) in
+    record {
+      listed = p .listed;
+      are-powers = p .are-powers;
+      below = omega (arith, p .ends);
+      bits-room = omega (arith, p .ends, p .bits-room, long);
+      sums-room = omega (arith, p .sums-room, v .filled .same);
+    }
 
 add-i : tie.Need-add-i Inv-loop μ-loop
 add-i c = omega arith
@@ -37,14 +44,18 @@ loop-less c = omega arith
 
 loop-again : tie.Need-loop-again Inv-loop μ-loop
 loop-again c =
-    let p = c .before .before .before .before .before .before .before .before .before .before .before .before .before .before .pre in
-    stretch-next (p .0) (c .before .before .before .before .before .before .before .before .before .loop .inv) (c .before .before .before .before .before .before .before .before .loop-test .taken) (omega (arith, p .2, p .3)) (c .before .before .before .before .splice-place .ensures)
+    let put = c .before .before .before .before in
+    let turn = put .before .before .before .before .before in
+    let p = turn .before .before .before .before .before .pre in
+    let more = put .before .before .before .before .loop-test .taken in
+    stretch-next (p .listed) (turn .loop .inv) more (omega (arith, p .ends, p .bits-room)) (put .splice-place .ensures)
 
 same-length : tie.Need-same-length Inv-loop μ-loop
 same-length c =
-    let p = c .before .before .before .before .before .before .pre in
-    let v = c .before .loop .inv in
-    stretch-long v (omega (arith, v .within, p .2, p .3))
+    let turn = c .before in
+    let p = turn .before .before .before .before .before .pre in
+    let v = turn .loop .inv in
+    stretch-long v (omega (arith, v .within, p .ends, p .bits-room))
 
 same-length-2 : tie.Need-same-length-2 Inv-loop μ-loop
 same-length-2 c = c .before .loop .inv .filled .same

@@ -1,12 +1,17 @@
--- A record has room for the places of every m.
+-- A record has room for the places and the sums of every code.
 use mathlib.Core.Path.{_≡_, refl}
-use lib.ListN.{length}
 use native.Mathlib.Omega.{arith}
-use Rattle.field.proofs.Range.{sizes}
+use lib.ListN.{length}
 use Rattle.splice.proofs.SpliceLaws.{spliced-parts}
 use borrow.Author.Needs.{needs}
 use Rattle.splice.proofs.spliced.Statement.{statement}
 use Rattle.splice.proofs.spliced.Tie as tie
+
+bits-long : (entry : tie.Start) → length (entry .args .stored .bits) ≡ 1023
+bits-long entry = search needs
+
+sums-long : (entry : tie.Start) → length (entry .args .stored .sums) ≡ 255
+sums-long entry = search needs
 
 powers-space-requires : tie.Need-powers-space-requires
 powers-space-requires c κs = search needs
@@ -28,11 +33,17 @@ slice-aggregate-splice-stretch-3 c = search needs
 
 splice-stretch-requires : tie.Need-splice-stretch-requires
 splice-stretch-requires c κs =
-    let s = c .before .before .before .before .before .before .before .before .before .before in
-    let b : length (s .args .stored .bits) ≡ 1023 = search needs in
-    let l : length (s .args .stored .sums) ≡ 255 = search needs in
-    let k = sizes (s .pre .0 .listed) in
-    (s .pre .0 .listed, c .before .before .before .before .fill-powers .ensures, s .pre .1, omega (arith, b), omega (arith, l, s .pre .0 .most))
+    let filled = c .before .before .before .before in
+    let shared = filled .before .before .before .before in
+    let entry = shared .before .before in
+    let K = entry .pre .known in
+    record {
+      listed = K .of-m .listed;
+      are-powers = filled .fill-powers .ensures;
+      ends = omega (arith, entry .pre .ends, K .is-n);
+      bits-room = omega (arith, bits-long entry, K .is-n, K .small);
+      sums-room = omega (arith, sums-long entry, K .most);
+    }
 
 returns : tie.Need-returns
 returns c = spliced-parts refl refl (c .before .before .splice-stretch .ensures)

@@ -17,13 +17,25 @@ around-requires : tie.Need-around-requires
 around-requires c κs = search needs
 
 add-walk-requires : tie.Need-add-walk-requires
-add-walk-requires c κs = let s = c .before .before .before .before .before in (s .pre .0, s .pre .1, s .pre .2, omega (arith, around-below (s .pre .0) (2 * s .args .p) (c .before .before .n-of .ensures) (c .before .around .ensures)), s .pre .3)
+add-walk-requires c κs =
+    let entry = c .before .before .before .before .before in (
+      entry .pre .0,
+      entry .pre .1,
+      entry .pre .2,
+      omega
+          (arith, around-below (entry .pre .0) (2 * entry .args .p) (c .before .before .n-of .ensures) (c .before .around .ensures)),
+      entry .pre .3,
+    )
 
 same-length : tie.Need-same-length
 same-length c = search needs
 
 returns : tie.Need-returns
-returns c = let s = c .before .before .before .before .before .before .before .before in place-added (s .args .p) (s .pre .0) (c .before .before .before .before .before .n-of .ensures) (c .before .before .before .before .around .ensures) (c .before .before .add-walk .ensures)
+returns c =
+    let at-around = c .before .before .before .before in
+    let at-n-of = at-around .before in
+    let entry = at-n-of .before .before .before in
+    place-added (entry .args .p) (entry .pre .0) (at-n-of .n-of .ensures) (at-around .around .ensures) (c .before .before .add-walk .ensures)
 
 pub add-place-spec : {M : Type 1} → statement M
 add-place-spec =

@@ -31,7 +31,9 @@ cast-count : tie.Need-cast-count Inv-loop μ-loop
 cast-count c = omega (arith, c .before .before .before .pre .0 .at (c .before .before .loop .i))
 
 add-count : tie.Need-add-count Inv-loop μ-loop
-add-count c = omega (arith, c .before .before .before .pre .0 .at (c .before .before .loop .i), c .before .before .loop .inv .fewer, c .before .before .before .pre .1)
+add-count c =
+    let entry = c .before .before .before in
+    omega (arith, entry .pre .0 .at (c .before .before .loop .i), c .before .before .loop .inv .fewer, entry .pre .1)
 
 add-i : tie.Need-add-i Inv-loop μ-loop
 add-i c = omega arith
@@ -40,7 +42,10 @@ loop-less : tie.Need-loop-less Inv-loop μ-loop
 loop-less c = omega arith
 
 loop-again : tie.Need-loop-again Inv-loop μ-loop
-loop-again c = listing-next (c .before .before .before .pre .0) (c .before .before .loop .inv) (c .before .loop-test .taken) (omega (arith, c .before .before .loop .inv .long, c .before .before .before .pre .1, c .before .before .before .pre .2))
+loop-again c =
+    let entry = c .before .before .before in
+    listing-next (entry .pre .0) (c .before .before .loop .inv) (c .before .loop-test .taken)
+    (omega (arith, c .before .before .loop .inv .long, entry .pre .1, entry .pre .2))
 
 same-length : tie.Need-same-length Inv-loop μ-loop
 same-length c = c .before .loop .inv .long

@@ -25,10 +25,21 @@ shared-slice-read-p : tie.Need-shared-slice-read-p Inv-loop μ-loop
 shared-slice-read-p c = omega arith
 
 cast-p : tie.Need-cast-p Inv-loop μ-loop
-cast-p c = omega (arith, c .before .before .before .before .before .before .before .before .shared-slice-known2 .given (c .before .before .loop .i))
+cast-p c =
+    let at-clear-first = c .before .before .before .before .before in
+    let known-places = at-clear-first .before .before .before in
+    omega (arith, known-places .shared-slice-known2 .given (c .before .before .loop .i))
 
 add-place-requires : tie.Need-add-place-requires Inv-loop μ-loop
-add-place-requires c κs = let s = c .before .before .before .before .before .before .before .before .before .before .before in (s .pre .0, s .pre .1, s .pre .3 _ (c .before .before .loop-test .taken), omega (arith, s .pre .4, c .before .before .before .loop .inv .1 .filled .same, c .before .before .before .before .before .before .clear-first .ensures .same))
+add-place-requires c κs =
+    let at-loop = c .before .before .before in
+    let at-clear-first = at-loop .before .before .before in
+    let entry = at-clear-first .before .before .before .before .before in (
+      entry .pre .0,
+      entry .pre .1,
+      entry .pre .3 _ (c .before .before .loop-test .taken),
+      omega (arith, entry .pre .4, at-loop .loop .inv .1 .filled .same, at-clear-first .clear-first .ensures .same),
+    )
 
 add-i : tie.Need-add-i Inv-loop μ-loop
 add-i c = omega arith
@@ -37,13 +48,22 @@ loop-less : tie.Need-loop-less Inv-loop μ-loop
 loop-less c = omega arith
 
 loop-again : tie.Need-loop-again Inv-loop μ-loop
-loop-again c = (omega arith, placing-next (c .before .before .before .before .before .before .before .before .before .before .before .before .before .before .pre .0) (c .before .before .before .before .before .before .loop .inv .1) (omega (arith, c .before .before .before .before .before .before .before .before .before .before .before .before .before .before .pre .2)) refl (c .before .before .add-place .ensures))
+loop-again c =
+    let at-add-place = c .before .before in
+    let at-loop = at-add-place .before .before .before .before in
+    let at-clear-first-arg = at-loop .before .before .before .before in
+    let entry = at-clear-first-arg .before .before .before .before in
+    (omega arith, placing-next (entry .pre .0) (at-loop .loop .inv .1) (omega (arith, entry .pre .2)) refl (at-add-place .add-place .ensures))
 
 same-length : tie.Need-same-length Inv-loop μ-loop
 same-length c = c .before .loop .inv .1 .filled .same ∙ c .before .before .before .before .clear-first .ensures .same
 
 returns : tie.Need-returns Inv-loop μ-loop
-returns c = let z : c .before .loop .i ≡ c .before .before .before .before .before .before .before .before .before .args .count = omega arith in placing-done (c .before .before .before .before .clear-first .ensures) (c .before .loop .inv .1) z
+returns c =
+    let at-clear-first = c .before .before .before .before in
+    let entry = at-clear-first .before .before .before .before .before in
+    let z : c .before .loop .i ≡ entry .args .count = omega arith in
+    placing-done (at-clear-first .clear-first .ensures) (c .before .loop .inv .1) z
 
 pub place-sums-spec : {M : Type 1} → statement M
 place-sums-spec =

@@ -14,7 +14,11 @@ all-zero-requires : tie.Need-all-zero-requires
 all-zero-requires c κs = search needs
 
 returns : tie.Need-returns
-returns c = record { yes = λ e i h. sym (c .before .before .odd-sums .ensures .holds i h) ∙ c .all-zero .ensures .yes e i h; no = λ e z. c .all-zero .ensures .no e (λ i h. c .before .before .odd-sums .ensures .holds i h ∙ z i h) }
+returns c =
+    record {
+      yes = λ e i h. sym (c .before .before .odd-sums .ensures .holds i h) ∙ c .all-zero .ensures .yes e i h;
+      no = λ e z. c .all-zero .ensures .no e (λ i h. c .before .before .odd-sums .ensures .holds i h ∙ z i h);
+    }
 
 pub vanish-spec : {M : Type 1} → statement M
 vanish-spec =

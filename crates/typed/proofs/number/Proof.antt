@@ -15,7 +15,9 @@ spelled-requires : tie.Need-spelled-requires
 spelled-requires c κs = search needs
 
 returns-3 : tie.Need-returns-3
-returns-3 c = number-of (c .before .before .before .before .args .text .now) (c .before .before .before .before .args .most) (c .spelled .result) (omega arith) (omega arith) (c .spelled .ensures)
+returns-3 c =
+    let entry = c .before .before .before .before in
+    number-of (entry .args .text .now) (entry .args .most) (c .spelled .result) (omega arith) (omega arith) (c .spelled .ensures)
 
 pub number-spec : {M : Type 1} → statement M
 number-spec = tie.close (tie.spec returns returns-2 spelled-requires returns-3)

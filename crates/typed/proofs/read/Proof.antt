@@ -51,9 +51,11 @@ read-poll-requires c κs = search needs
 
 returns-3 : tie.Need-returns-3
 returns-3 c =
-    let t = c .before .before in
-    let b = t .before .before .before .before .before .before in
-    house-then (b .first-blank .ensures) (omega arith) (c .read-poll .result) (subst (AnswersNumber _ _) (t .before .house .given .1) (t .before .before .before .number .ensures)) (c .read-poll .ensures)
+    let at-house = c .before .before .before in
+    let at-number = at-house .before .before in
+    let at-first-blank = at-number .before .before .before in
+    house-then (at-first-blank .first-blank .ensures) (omega arith) (c .read-poll .result)
+    (subst (AnswersNumber _ _) (at-house .house .given .1) (at-number .number .ensures)) (c .read-poll .ensures)
 
 pub read-spec : {M : Type 1} → statement M
 read-spec =

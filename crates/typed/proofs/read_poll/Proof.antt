@@ -51,9 +51,12 @@ read-counter-requires c κs = search needs
 
 returns-3 : tie.Need-returns-3
 returns-3 c =
-    let t = c .before .before in
-    let b = t .before .before .before .before .before .before in
-    poll-then (b .first-blank .ensures) (omega arith) (b .before .before .args .house) (c .read-counter .result) (subst (AnswersNumber _ _) (t .before .poll .given .1) (t .before .before .before .number .ensures)) (c .read-counter .ensures)
+    let at-poll = c .before .before .before in
+    let at-number = at-poll .before .before in
+    let at-first-blank = at-number .before .before .before in
+    let entry = at-first-blank .before .before in
+    poll-then (at-first-blank .first-blank .ensures) (omega arith) (entry .args .house) (c .read-counter .result)
+    (subst (AnswersNumber _ _) (at-poll .poll .given .1) (at-number .number .ensures)) (c .read-counter .ensures)
 
 pub read-poll-spec : {M : Type 1} → statement M
 read-poll-spec =

@@ -32,8 +32,10 @@ enum-told c = search needs
 
 returns : tie.Need-returns Inv-loop μ-loop
 returns c =
-    let l = c .before .before .before .before in
-    spelled-stuck _ _ _ (l .loop-test .taken) (l .before .loop .inv .2) (subst (AnswersDigit _ _ _) (c .enum-told .given .1) (c .before .before .with-digit .ensures))
+    let in-loop = c .before .before .before .before in
+    let at-loop = in-loop .before in
+    spelled-stuck _ _ _ (in-loop .loop-test .taken) (at-loop .loop .inv .2)
+    (subst (AnswersDigit _ _ _) (c .enum-told .given .1) (c .before .before .with-digit .ensures))
 
 add-i : tie.Need-add-i Inv-loop μ-loop
 add-i c = omega arith
@@ -43,9 +45,11 @@ loop-less c = omega arith
 
 loop-again : tie.Need-loop-again Inv-loop μ-loop
 loop-again c =
-    let l = c .before .before .before .before .before in
-    let w = subst (AnswersDigit _ _ _) (c .before .longer .given .1) (c .before .before .before .with-digit .ensures) in
-    (omega arith, w .small, spelled-more _ _ _ (l .loop-test .taken) (l .before .loop .inv .2) w)
+    let at-with-digit = c .before .before .before in
+    let in-loop = at-with-digit .before .before in
+    let at-loop = in-loop .before in
+    let w = subst (AnswersDigit _ _ _) (c .before .longer .given .1) (at-with-digit .with-digit .ensures) in
+    (omega arith, w .small, spelled-more _ _ _ (in-loop .loop-test .taken) (at-loop .loop .inv .2) w)
 
 returns-2 : tie.Need-returns-2 Inv-loop μ-loop
 returns-2 c = spelled-all _ _ _ (c .loop-test .left) (c .before .loop .inv .2) (c .before .loop .inv .1)

@@ -19,13 +19,19 @@ loop-holds : tie.Need-loop-holds Inv-loop μ-loop
 loop-holds c = (omega arith, walked-start _ _ _ (c .before .before .before .pre .2))
 
 add-at-requires : tie.Need-add-at-requires Inv-loop μ-loop
-add-at-requires c κs = (omega (arith, c .before .before .before .before .before .before .pre .1 .long, c .before .before .loop .inv .1 .below), omega (arith, c .before .before .before .before .before .before .pre .4, c .before .before .loop .inv .1 .added .same))
+add-at-requires c κs =
+    let at-loop = c .before .before in
+    let entry = at-loop .before .before .before .before in
+    (omega (arith, entry .pre .1 .long, at-loop .loop .inv .1 .below), omega (arith, entry .pre .4, at-loop .loop .inv .1 .added .same))
 
 add-around : tie.Need-add-around Inv-loop μ-loop
 add-around c = omega (arith, c .before .before .before .before .before .loop .inv .1 .below)
 
 around-requires : tie.Need-around-requires Inv-loop μ-loop
-around-requires c κs = omega (arith, c .before .before .before .before .before .loop .inv .1 .below, c .before .before .before .before .before .before .n-of .ensures)
+around-requires c κs =
+    let at-loop = c .before .before .before .before .before in
+    let at-n-of = at-loop .before in
+    omega (arith, at-loop .loop .inv .1 .below, at-n-of .n-of .ensures)
 
 add-j : tie.Need-add-j Inv-loop μ-loop
 add-j c = omega arith
@@ -34,7 +40,16 @@ loop-less : tie.Need-loop-less Inv-loop μ-loop
 loop-less c = omega arith
 
 loop-again : tie.Need-loop-again Inv-loop μ-loop
-loop-again c = let s = c .before .before .before .before .before .before .before .before .before .before in (omega arith, walked-by (c .before .before .before .add-at .ensures) (walked-next (s .pre .0) (c .before .before .before .before .before .before .loop .inv .1) (c .before .before .before .before .before .before .before .n-of .ensures) (omega arith) (omega (arith, s .pre .4)) (s .pre .1 .holds _ (omega (arith, c .before .before .before .before .before .before .loop .inv .1 .below))) (c .around .ensures)))
+loop-again c =
+    let at-add-at = c .before .before .before in
+    let at-loop = at-add-at .before .before .before in
+    let at-n-of = at-loop .before in
+    let entry = at-n-of .before .before .before in (
+      omega arith,
+      walked-by (at-add-at .add-at .ensures)
+          (walked-next (entry .pre .0) (at-loop .loop .inv .1) (at-n-of .n-of .ensures) (omega arith) (omega (arith, entry .pre .4))
+          (entry .pre .1 .holds _ (omega (arith, at-loop .loop .inv .1 .below))) (c .around .ensures)),
+    )
 
 same-length : tie.Need-same-length Inv-loop μ-loop
 same-length c = c .before .loop .inv .1 .added .same

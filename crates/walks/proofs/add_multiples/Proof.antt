@@ -16,13 +16,21 @@ cast-from : tie.Need-cast-from
 cast-from c = omega (arith, c .shared-slice-known3 .given (c .before .before .before .before .before .args .s))
 
 add-walk-requires : tie.Need-add-walk-requires
-add-walk-requires c κs = let s = c .before .before .before .before .before .before in let l = logarithm (s .pre .0) (s .pre .1) (c .before .before .if1 .taken) in (s .pre .0 .listed, s .pre .0 .powers-hold, l .below, s .pre .2, s .pre .3)
+add-walk-requires c κs =
+    let in-if1 = c .before .before in
+    let entry = in-if1 .before .before .before .before in
+    let l = logarithm (entry .pre .0) (entry .pre .1) (in-if1 .if1 .taken) in
+    (entry .pre .0 .listed, entry .pre .0 .powers-hold, l .below, entry .pre .2, entry .pre .3)
 
 same-length : tie.Need-same-length
 same-length c = search needs
 
 returns : tie.Need-returns
-returns c = let s = c .before .before .before .before .before .before .before .before .before in multiples-added (s .args .step) (s .pre .0 .listed) (logarithm (s .pre .0) (s .pre .1) (c .before .before .before .before .before .if1 .taken)) (c .before .before .add-walk .ensures)
+returns c =
+    let in-if1 = c .before .before .before .before .before in
+    let entry = in-if1 .before .before .before .before in
+    multiples-added (entry .args .step) (entry .pre .0 .listed) (logarithm (entry .pre .0) (entry .pre .1) (in-if1 .if1 .taken))
+    (c .before .before .add-walk .ensures)
 
 returns-2 : tie.Need-returns-2
 returns-2 c = multiples-skipped _ _ _ _ (c .if1 .left)

@@ -7,7 +7,9 @@ use Rattle.cases.proofs.running.run_lines.Statement.{statement}
 use Rattle.cases.proofs.running.run_lines.Tie as tie
 
 abbrev Inv-loop : tie.InvT-loop
-Inv-loop text word₀ stretch₀ bench₀ line₀ at₀ word stretch bench line at = (at ≤ length text + 1) × (line ≤ at) × (length word ≡ length word₀) × (length stretch ≡ length stretch₀) × (bench .word ≤ length word) × (bench .stretch ≤ length stretch)
+Inv-loop text word₀ stretch₀ bench₀ line₀ at₀ word stretch bench line at =
+    (at ≤ length text + 1) × (line ≤ at) × (length word ≡ length word₀) × (length stretch ≡ length stretch₀)
+    × (bench .word ≤ length word) × (bench .stretch ≤ length stretch)
 
 abbrev μ-loop : tie.MeasureT-loop
 μ-loop text word₀ stretch₀ bench₀ line₀ at₀ word stretch bench line at = length text + 1 - at

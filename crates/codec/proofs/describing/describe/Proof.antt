@@ -1,48 +1,55 @@
--- What looking up tells decides.
-use borrow.Author.Needs.{needs}
-use mathlib.Core.Path.{_≡_, _∙_, sym, subst}
-use mathlib.Core.List.{List}
-use Prim.Native.Nat.{ℕ}
-use Rattle.codes.proofs.LookLaws.{looked}
-use Rattle.codec.specs.Describe.{Describes}
-use Rattle.codec.specs.declared.describing.Described.{Described}
-use Rattle.codec.proofs.DescribeLaws.{describe-early}
+-- The checks, then the generator.
+use Rattle.sheet.proofs.VerdictLaws.{always}
+use Rattle.codes.proofs.LookLaws.{passed-known, passed-checks, on-passed, on-refused}
+use Rattle.codec.proofs.DescribeLaws.{describe-ready, described}
 use borrow.Author.Needs.{needs}
 use Rattle.codec.proofs.describing.describe.Statement.{statement}
 use Rattle.codec.proofs.describing.describe.Tie as tie
 
-at-t : {m t t′ : ℕ} {lent left : List ℕ} {answer : Described} → t ≡ t′ → Describes m t′ lent answer left → Describes m t lent answer left
-at-t {m} {lent = lent} {left} {answer} e d = subst (λ (x : ℕ). Describes m x lent answer left) (sym e) d
+checks-requires : tie.Need-checks-requires
+checks-requires c κs = search needs
 
-look-up-requires : tie.Need-look-up-requires
-look-up-requires c κs = search needs
+enum-known-checked : tie.Need-enum-known-checked
+enum-known-checked c = search needs
 
-enum-known-look : tie.Need-enum-known-look
-enum-known-look c = search needs
+fill-generator-requires : tie.Need-fill-generator-requires
+fill-generator-requires c κs =
+    let passed = c .before .before in
+    let checked = passed .before .before in
+    let entry = checked .before .before .before in
+    let e = passed .checked .given .1 in
+    let p = checked .checks .ensures in
+    describe-ready (entry .args .generator .now) (passed-known e p) (passed-checks e p)
 
-describe-row-requires : tie.Need-describe-row-requires
-describe-row-requires c κs = let l = looked _ _ _ (sym (c .before .before .look .given .1) ∙ c .before .before .before .before .look-up .ensures) in (l .0, l .1)
-
-enum-known-look-2 : tie.Need-enum-known-look-2
-enum-known-look-2 c = search needs
+enum-known-checked-2 : tie.Need-enum-known-checked-2
+enum-known-checked-2 c = search needs
 
 same-length : tie.Need-same-length
 same-length c = search needs
 
 returns : tie.Need-returns
-returns c = at-t (looked _ _ _ (sym (c .before .before .before .before .before .look .given .1) ∙ c .before .before .before .before .before .before .before .look-up .ensures) .2) (c .before .before .describe-row .ensures)
+returns c =
+    let filled = c .before .before in
+    let passed = filled .before .before .before in
+    let e = passed .checked .given .1 in
+    let p = passed .before .before .checks .ensures in
+    on-passed e p (always (described (passed-known e p) (filled .fill-generator .ensures)))
+
+same-length-2 : tie.Need-same-length-2
+same-length-2 c = search needs
 
 returns-2 : tie.Need-returns-2
-returns-2 c = describe-early _ (looked _ _ _ (sym (c .before .look2 .given .1) ∙ c .before .before .before .look-up .ensures))
+returns-2 c = on-refused (c .before .checked2 .given .1) (c .before .before .before .checks .ensures)
 
 pub describe-spec : {M : Type 1} → statement M
 describe-spec =
     tie.close
     (tie.spec
-    look-up-requires
-    enum-known-look
-    describe-row-requires
-    enum-known-look-2
+    checks-requires
+    enum-known-checked
+    fill-generator-requires
+    enum-known-checked-2
     same-length
     returns
+    same-length-2
     returns-2)

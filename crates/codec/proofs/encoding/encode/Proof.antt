@@ -1,48 +1,53 @@
--- What looking up tells decides.
-use borrow.Author.Needs.{needs}
-use mathlib.Core.Path.{_≡_, _∙_, sym, subst}
-use mathlib.Core.List.{List}
-use Prim.Native.Nat.{ℕ}
-use Rattle.codes.proofs.LookLaws.{looked}
-use Rattle.codec.specs.Encode.{Encodes}
-use Rattle.codec.specs.declared.encoding.Encoded.{Encoded}
-use Rattle.codec.proofs.EncodeLaws.{encode-early}
+-- The checks, then the word.
+use Rattle.codes.proofs.LookLaws.{passed-known, passed-checks, on-passed, on-refused}
+use Rattle.sheet.proofs.VerdictLaws.{always}
+use Rattle.codec.proofs.EncodeLaws.{encode-ready}
 use borrow.Author.Needs.{needs}
 use Rattle.codec.proofs.encoding.encode.Statement.{statement}
 use Rattle.codec.proofs.encoding.encode.Tie as tie
 
-at-t : {m t t′ : ℕ} {message lent left : List ℕ} {answer : Encoded} → t ≡ t′ → Encodes m t′ message lent answer left → Encodes m t message lent answer left
-at-t {m} {message = message} {lent} {left} {answer} e d = subst (λ (x : ℕ). Encodes m x message lent answer left) (sym e) d
+checks-requires : tie.Need-checks-requires
+checks-requires c κs = search needs
 
-look-up-requires : tie.Need-look-up-requires
-look-up-requires c κs = search needs
+enum-known-checked : tie.Need-enum-known-checked
+enum-known-checked c = search needs
 
-enum-known-look : tie.Need-enum-known-look
-enum-known-look c = search needs
+fill-word-requires : tie.Need-fill-word-requires
+fill-word-requires c κs =
+    let passed = c .before .before in
+    let checked = passed .before .before in
+    let entry = checked .before .before .before .before in
+    let e = passed .checked .given .1 in
+    let p = checked .checks .ensures in
+    encode-ready _ (entry .args .word .now) (passed-known e p) (passed-checks e p)
 
-encode-row-requires : tie.Need-encode-row-requires
-encode-row-requires c κs = let l = looked _ _ _ (sym (c .before .before .look .given .1) ∙ c .before .before .before .before .look-up .ensures) in (l .0, l .1)
-
-enum-known-look-2 : tie.Need-enum-known-look-2
-enum-known-look-2 c = search needs
+enum-known-checked-2 : tie.Need-enum-known-checked-2
+enum-known-checked-2 c = search needs
 
 same-length : tie.Need-same-length
 same-length c = search needs
 
 returns : tie.Need-returns
-returns c = at-t (looked _ _ _ (sym (c .before .before .before .before .before .look .given .1) ∙ c .before .before .before .before .before .before .before .look-up .ensures) .2) (c .before .before .encode-row .ensures)
+returns c =
+    let filled = c .before .before in
+    let passed = filled .before .before .before in
+    on-passed (passed .checked .given .1) (passed .before .before .checks .ensures) (always (filled .fill-word .ensures))
+
+same-length-2 : tie.Need-same-length-2
+same-length-2 c = search needs
 
 returns-2 : tie.Need-returns-2
-returns-2 c = encode-early _ _ (looked _ _ _ (sym (c .before .look2 .given .1) ∙ c .before .before .before .look-up .ensures))
+returns-2 c = on-refused (c .before .checked2 .given .1) (c .before .before .before .checks .ensures)
 
 pub encode-spec : {M : Type 1} → statement M
 encode-spec =
     tie.close
     (tie.spec
-    look-up-requires
-    enum-known-look
-    encode-row-requires
-    enum-known-look-2
+    checks-requires
+    enum-known-checked
+    fill-word-requires
+    enum-known-checked-2
     same-length
     returns
+    same-length-2
     returns-2)

@@ -1,9 +1,9 @@
--- The message, its encoding, the bytes.
-use borrow.Author.Needs.{needs}
+-- The message, its encoding, and the bytes of that.
 use mathlib.Core.Path.{_∙_, ap}
 use Prim.Native.Nat.{ℕ}
 use lib.ListN.{length, length-replicate}
 use Rattle.frame.proofs.MakeLaws.{encoded, made}
+use borrow.Author.Needs.{needs}
 use Rattle.frame.proofs.making.fill_frame.Statement.{statement}
 use Rattle.frame.proofs.making.fill_frame.Tie as tie
 
@@ -33,14 +33,26 @@ slice-aggregate-pack c = search needs
 
 pack-requires : tie.Need-pack-requires
 pack-requires c κs =
-    let e = encoded (c .before .before .before .before .before .before .before .before .before .before .before .before .args .reading) (c .before .before .before .before .before .before .before .fill-message .ensures) (ap length (c .before .before .before .before .before .before .before .before .before .word-space .ensures) ∙ length-replicate {A = ℕ} 255 0) (c .before .before .before .encode .ensures) in
-    (e .code-word .bits, e .code-word .long, c .before .before .before .before .before .before .before .before .before .before .before .before .pre)
+    let encoding = c .before .before .before in
+    let filling = encoding .before .before .before .before in
+    let rooms = filling .before .before in
+    let entry = rooms .before .before .before in
+    let long = ap length (rooms .word-space .ensures) ∙ length-replicate {A = ℕ} 255 0 in
+    let e = encoded (entry .args .reading) (filling .fill-message .ensures) long (encoding .encode .ensures) in
+    (e .code-word .bits, e .code-word .long, entry .pre)
 
 same-length : tie.Need-same-length
 same-length c = search needs
 
 returns : tie.Need-returns
-returns c = made (c .before .before .before .before .before .before .before .before .before .before .before .before .before .before .before .args .reading) (c .before .before .before .before .before .before .before .before .before .before .fill-message .ensures) (ap length (c .before .before .before .before .before .before .before .before .before .before .before .before .word-space .ensures) ∙ length-replicate {A = ℕ} 255 0) (c .before .before .before .before .before .before .encode .ensures) (c .before .before .pack .ensures)
+returns c =
+    let packed = c .before .before in
+    let encoding = packed .before .before .before .before in
+    let filling = encoding .before .before .before .before in
+    let rooms = filling .before .before in
+    let entry = rooms .before .before .before in
+    let long = ap length (rooms .word-space .ensures) ∙ length-replicate {A = ℕ} 255 0 in
+    made (entry .args .reading) (filling .fill-message .ensures) long (encoding .encode .ensures) (packed .pack .ensures)
 
 pub fill-frame-spec : {M : Type 1} → statement M
 fill-frame-spec =

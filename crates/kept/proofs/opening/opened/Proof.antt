@@ -3,8 +3,6 @@ use mathlib.Core.Path.{_∙_, refl, ap}
 use mathlib.Core.List.{_++_}
 use Prim.Native.Nat.{ℕ, _-_}
 use lib.ListN.{replicate}
-use native.Mathlib.Omega.{arith}
-use Rattle.field.proofs.Range.{sizes}
 use borrow.Author.Needs.{needs}
 use Rattle.kept.proofs.opening.opened.Statement.{statement}
 use Rattle.kept.proofs.opening.opened.Tie as tie
@@ -13,15 +11,18 @@ odd-sums-requires : tie.Need-odd-sums-requires
 odd-sums-requires c κs = search needs
 
 padded-requires : tie.Need-padded-requires
-padded-requires c κs = let s = sizes (c .before .before .pre .0 .listed) in omega (arith, c .before .before .pre .1)
+padded-requires c κs = search needs
 
 returns : tie.Need-returns
-returns c = record { m-is = refl; t-is = refl; bits-are = c .padded .ensures ∙ ap (λ (x : ℕ). c .before .before .before .args .word .now ++ replicate (1023 - x) 0) (c .before .before .before .pre .1); sums-are = c .before .odd-sums .ensures }
+returns c =
+    let entry = c .before .before .before in
+    let word = entry .args .word .now in
+    record {
+      m-is = refl;
+      t-is = refl;
+      bits-are = c .padded .ensures ∙ ap (λ (x : ℕ). word ++ replicate (1023 - x) 0) (entry .pre .long);
+      sums-are = c .before .odd-sums .ensures;
+    }
 
 pub opened-spec : {M : Type 1} → statement M
-opened-spec =
-    tie.close
-    (tie.spec
-    odd-sums-requires
-    padded-requires
-    returns)
+opened-spec = tie.close (tie.spec odd-sums-requires padded-requires returns)

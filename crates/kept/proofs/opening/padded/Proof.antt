@@ -14,7 +14,11 @@ copy-at-requires : tie.Need-copy-at-requires
 copy-at-requires c κs = search needs
 
 returns : tie.Need-returns
-returns c = front-padded (c .before .before .before .before .before .args .word .now) (c .before .before .before .before .before .pre) (c .before .before .before .word-space .ensures) (c .before .copy-at .ensures)
+returns c =
+    let copied = c .before in
+    let cleared = copied .before .before in
+    let entry = cleared .before .before in
+    front-padded (entry .args .word .now) (entry .pre) (cleared .word-space .ensures) (copied .copy-at .ensures)
 
 pub padded-spec : {M : Type 1} → statement M
 padded-spec =

@@ -34,7 +34,11 @@ loop-less c = search needs
 
 loop-again : tie.Need-loop-again Inv-loop μ-loop
 unfolding placeBit
-loop-again c = fill-next (c .before .before .before .loop .inv) (c .before .before .loop-test .taken) (c .sent-bit .ensures ∙ ap (sentBit (c .before .before .before .before .before .before .args .frame .now)) (c .before .sent-of .ensures))
+loop-again c =
+    let at-loop = c .before .before .before in
+    let entry = at-loop .before .before .before in
+    fill-next (at-loop .loop .inv) (c .before .before .loop-test .taken)
+    (c .sent-bit .ensures ∙ ap (sentBit (entry .args .frame .now)) (c .before .sent-of .ensures))
 
 same-length : tie.Need-same-length Inv-loop μ-loop
 same-length c = search needs

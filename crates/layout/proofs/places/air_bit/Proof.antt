@@ -14,7 +14,9 @@ shared-slice-read-result : tie.Need-shared-slice-read-result
 shared-slice-read-result c = search needs
 
 returns : tie.Need-returns
-returns c = ap (λ (p : ℕ). getD (c .before .before .before .before .before .args .word .now) p 0) (c .before .place-of .ensures) ∙ sym (air-place _ (c .before .before .if1 .taken))
+returns c =
+    let entry = c .before .before .before .before .before in
+    ap (λ (p : ℕ). getD (entry .args .word .now) p 0) (c .before .place-of .ensures) ∙ sym (air-place _ (c .before .before .if1 .taken))
 
 returns-2 : tie.Need-returns-2
 returns-2 c = sym (air-pad _ (c .if1 .left))

@@ -12,7 +12,8 @@ use Rattle.layout.proofs.SentLaws.{air-small}
 use Rattle.layout.proofs.places.gather.Statement.{statement}
 use Rattle.layout.proofs.places.gather.Tie as tie
 
-next : (word : List ℕ) (first : ℕ) {i v b : ℕ} → AreBits word → Digits (sentFrom word first) i v → b ≡ airBit word (first + i) → Digits (sentFrom word first) (i + 1) (2 * v + b)
+next : (word : List ℕ) (first : ℕ) {i v b : ℕ} → AreBits word → Digits (sentFrom word first) i v → b ≡ airBit word (first + i)
+    → Digits (sentFrom word first) (i + 1) (2 * v + b)
 next word first {i} {v} B d e = rw e (digits-more d (air-small B (first + i)))
 
 abbrev Inv-loop : tie.InvT-loop
@@ -37,7 +38,10 @@ wide-requires : tie.Need-wide-requires Inv-loop μ-loop
 wide-requires c κs = search needs
 
 add-v : tie.Need-add-v Inv-loop μ-loop
-add-v c = record { fits = digits-fit (c .before .before .before .loop .inv .1) (omega arith) (rw (c .wide .ensures, c .before .air-bit .ensures) (air-small (c .before .before .before .before .before .pre .0) _)) }
+add-v c =
+    let at-loop = c .before .before .before in
+    let entry = at-loop .before .before in
+    record { fits = digits-fit (at-loop .loop .inv .1) (omega arith) (rw (c .wide .ensures, c .before .air-bit .ensures) (air-small (entry .pre .0) _)) }
 
 add-i : tie.Need-add-i Inv-loop μ-loop
 add-i c = search needs
@@ -46,10 +50,20 @@ loop-less : tie.Need-loop-less Inv-loop μ-loop
 loop-less c = search needs
 
 loop-again : tie.Need-loop-again Inv-loop μ-loop
-loop-again c = (omega arith, next _ _ (c .before .before .before .before .before .pre .0) (c .before .before .before .loop .inv .1) (c .wide .ensures ∙ c .before .air-bit .ensures))
+loop-again c =
+    let at-loop = c .before .before .before in
+    let entry = at-loop .before .before in
+    (omega arith, next _ _ (entry .pre .0) (at-loop .loop .inv .1) (c .wide .ensures ∙ c .before .air-bit .ensures))
 
 returns : tie.Need-returns Inv-loop μ-loop
-returns c = let z = le-antisymm (c .before .loop .inv .0) (c .loop-test .left) in record { digits = subst (λ (n : ℕ). Digits (sentFrom (c .before .before .before .args .word .now) (c .before .before .before .args .from .number)) n (c .before .loop .v)) z (c .before .loop .inv .1) }
+returns c =
+    let entry = c .before .before .before in
+    let z = le-antisymm (c .before .loop .inv .0) (c .loop-test .left) in
+    record {
+      digits = subst
+          (λ (n : ℕ). Digits (sentFrom (entry .args .word .now) (entry .args .from .number)) n (c .before .loop .v)) z
+          (c .before .loop .inv .1);
+    }
 
 pub gather-spec : {M : Type 1} → statement M
 gather-spec =

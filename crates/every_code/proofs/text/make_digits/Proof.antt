@@ -1,0 +1,56 @@
+-- Each turn passes a place, and as many are left as there were.
+use mathlib.Core.Path.{_≡_}
+use Prim.Native.Nat.{_-_, _≤_}
+use lib.ListN.{length}
+use borrow.Author.Needs.{needs}
+use Rattle.every_code.proofs.text.make_digits.Statement.{statement}
+use Rattle.every_code.proofs.text.make_digits.Tie as tie
+
+abbrev Inv-loop : tie.InvT-loop
+Inv-loop bits₀ i₀ bits i = (i ≤ length bits₀) × (length bits ≡ length bits₀)
+
+abbrev μ-loop : tie.MeasureT-loop
+μ-loop bits₀ i₀ bits i = length bits₀ - i
+
+loop-holds : tie.Need-loop-holds Inv-loop μ-loop
+loop-holds c = search needs
+
+slice-read-digit : tie.Need-slice-read-digit Inv-loop μ-loop
+slice-read-digit c = search needs
+
+digit-requires : tie.Need-digit-requires Inv-loop μ-loop
+digit-requires c κs = search needs
+
+slice-write-bits : tie.Need-slice-write-bits Inv-loop μ-loop
+slice-write-bits c = search needs
+
+add-i : tie.Need-add-i Inv-loop μ-loop
+add-i c = search needs
+
+loop-less : tie.Need-loop-less Inv-loop μ-loop
+loop-less c = search needs
+
+loop-again : tie.Need-loop-again Inv-loop μ-loop
+loop-again c = search needs
+
+same-length : tie.Need-same-length Inv-loop μ-loop
+same-length c = search needs
+
+returns : tie.Need-returns Inv-loop μ-loop
+returns c = search needs
+
+pub make-digits-spec : {M : Type 1} → statement M
+make-digits-spec =
+    tie.close
+    (tie.spec
+    Inv-loop
+    μ-loop
+    loop-holds
+    slice-read-digit
+    digit-requires
+    slice-write-bits
+    add-i
+    loop-less
+    loop-again
+    same-length
+    returns)

@@ -1,0 +1,105 @@
+-- Checks one after another, what a promise gives where they pass and where they refuse, and the one outcome that it leaves.
+use mathlib.Core.Path.{_≡_, _∙_, refl, sym, ap}
+use mathlib.Core.Bool.{true, false, not}
+use mathlib.Core.List.{List, [], _∷_, _++_}
+use Prim.Native.Nat.{ℕ}
+use native.Mathlib.Omega.{arith}
+use borrow.Author.Tests.{eq-eqb, ne-eqb, eqb-true, not-false}
+use lib.Dec.{eqb}
+use Rattle.sheet.specs.declared.Refusal.{Refusal}
+use Rattle.sheet.specs.declared.Outcome.{Outcome}
+use Rattle.sheet.specs.declared.Outcome.the-variants.{Done, Refused}
+use Rattle.sheet.specs.Verdict.{Check, _⇒_, verdict, AllPass, Promise, Always, Searches, finds, finds-nothing}
+
+pub not-done : {r : Refusal} → Refused r ≡ Done → ⊥
+not-done {r} e = let z : _≡_ {A = ℕ} 0 1 = cc in omega arith
+
+-- the checks come to nothing exactly if all of them pass
+pub all-pass : (checks : List Check) → verdict checks ≡ Done → AllPass checks
+all-pass [] e = tt
+all-pass ((true ⇒ r) ∷ later) e = absurd (not-done e)
+all-pass ((false ⇒ r) ∷ later) e = (refl, all-pass later e)
+
+pub none-refuses : (checks : List Check) → AllPass checks → verdict checks ≡ Done
+none-refuses [] p = refl
+none-refuses ((b ⇒ r) ∷ later) (e, p) = rw e (none-refuses later p)
+
+-- a check of two numbers that are to be the same
+pub same-of : (a b : ℕ) → not (eqb a b) ≡ false → a ≡ b
+same-of a b e = eqb-true a b (not-false (eqb a b) e)
+
+pub equal : {a b : ℕ} → a ≡ b → not (eqb a b) ≡ false
+equal {a} {b} e = ap not (eq-eqb a b e)
+
+pub unequal : {a b : ℕ} → (a ≡ b → ⊥) → not (eqb a b) ≡ true
+unequal {a} {b} n = ap not (ne-eqb a b n)
+
+-- what the first checks come to, and then the later ones
+pub earlier-refuse : (first later : List Check) {r : Refusal} → verdict first ≡ Refused r → verdict (first ++ later) ≡ Refused r
+earlier-refuse [] later e = absurd (not-done (sym e))
+earlier-refuse ((true ⇒ r) ∷ first) later e = e
+earlier-refuse ((false ⇒ r) ∷ first) later e = earlier-refuse first later e
+
+pub earlier-pass : (first later : List Check) → verdict first ≡ Done → verdict (first ++ later) ≡ verdict later
+earlier-pass [] later e = refl
+earlier-pass ((true ⇒ r) ∷ first) later e = absurd (not-done e)
+earlier-pass ((false ⇒ r) ∷ first) later e = earlier-pass first later e
+
+-- the checks come to a refusal, or to nothing
+pub data Verdict (v : Outcome) : Type 0 where
+  passed : v ≡ Done → Verdict v
+  refused : (r : Refusal) → v ≡ Refused r → Verdict v
+
+pub verdict-cases : (v : Outcome) → Verdict v
+verdict-cases Done = passed refl
+verdict-cases (Refused r) = refused r refl
+
+module _ {L : Type 0} {Does : Outcome → L → Type 0} {stays : L} where
+  -- what makes a promise true: a check refuses, or all pass and the work is done
+  pub refuses-as : {checks : List Check} {r : Refusal} {answer : Outcome} {left : L} → verdict checks ≡ Refused r → answer ≡ Refused r → left ≡ stays
+      → Promise checks Does stays answer left
+  refuses-as e a l = record { refused = λ s z. (a ∙ sym e ∙ z, l); done = λ z. absurd (not-done (sym e ∙ z)) }
+
+  pub refuses : {checks : List Check} {r : Refusal} → verdict checks ≡ Refused r → Promise checks Does stays (Refused r) stays
+  refuses e = refuses-as e refl refl
+
+  pub does : {checks : List Check} {answer : Outcome} {left : L} → verdict checks ≡ Done → Does answer left → Promise checks Does stays answer left
+  does e d = record { refused = λ s z. absurd (not-done (sym z ∙ e)); done = λ z. d }
+
+  -- one outcome, where what is done is one
+  pub promise-one : {checks : List Check} {x y : Outcome} {left left′ : L}
+      → (verdict checks ≡ Done → Does x left → Does y left′ → (x ≡ y) × (left ≡ left′))
+      → Promise checks Does stays x left → Promise checks Does stays y left′ → (x ≡ y) × (left ≡ left′)
+  promise-one {checks} {x} {y} {left} {left′} u p q = pick (verdict-cases (verdict checks))
+    where
+      pick : Verdict (verdict checks) → (x ≡ y) × (left ≡ left′)
+      pick (passed e) = u e (p .done e) (q .done e)
+      pick (refused r e) =
+          let a = p .refused r e in
+          let b = q .refused r e in
+          (a .0 ∙ sym (b .0), a .1 ∙ sym (b .1))
+
+-- an operation that always does its work
+module _ {L : Type 0} {Did : L → Type 0} where
+  pub always : {left : L} → Did left → Always Did Done left
+  always d = record { is-done = refl; did = d }
+
+  pub always-one : {x y : Outcome} {left left′ : L} → (Did left → Did left′ → left ≡ left′) → Always Did x left → Always Did y left′ → (x ≡ y) × (left ≡ left′)
+  always-one u a b = (a .is-done ∙ sym (b .is-done), u (a .did) (b .did))
+
+  -- its answer is what its checks come to
+  pub answer-is : {checks : List Check} {stays : L} {answer : Outcome} {left : L} → Promise checks (Always Did) stays answer left → answer ≡ verdict checks
+  answer-is {checks} {stays} {answer} p = pick (verdict-cases (verdict checks))
+    where
+      pick : Verdict (verdict checks) → answer ≡ verdict checks
+      pick (passed e) = p .done e .is-done ∙ sym e
+      pick (refused r e) = p .refused r e .0 ∙ sym e
+
+-- an operation that searches: one outcome, where what is found is one and is not found where there is nothing
+pub search-one : {L : Type 0} {Found : L → Type 0} {Nothing : Type 0} {stays : L} {x y : Outcome} {left left′ : L}
+    → (Found left → Found left′ → left ≡ left′) → ((l : L) → Found l → Nothing → ⊥)
+    → Searches Found Nothing stays x left → Searches Found Nothing stays y left′ → (x ≡ y) × (left ≡ left′)
+search-one u n (finds a p) (finds b q) = (a ∙ sym b, u p q)
+search-one u n (finds a p) (finds-nothing b q l) = absurd (n _ p q)
+search-one u n (finds-nothing a p k) (finds b q) = absurd (n _ q p)
+search-one u n (finds-nothing a p k) (finds-nothing b q l) = (a ∙ sym b, k ∙ sym l)
