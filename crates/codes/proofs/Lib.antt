@@ -4,5 +4,6 @@ pub mod Walk
 pub mod Listed
 pub mod Rows
 pub mod LookLaws
+pub mod CheckLaws
 pub mod SumLaws
 pub mod Unique

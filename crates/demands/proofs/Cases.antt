@@ -22,7 +22,7 @@ use Rattle.field.specs.Power.{nOf, power}
 use Rattle.field.proofs.Tests.{both, both-left, both-right, all, All, done, also, all-passed, passes, passed-at}
 use Rattle.codes.specs.Table.{first, firsts, ks, ts}
 use Rattle.codes.specs.Look.{rowFrom, rowOf, isListed, kOf, codeOf, codeVerdict}
-use Rattle.codes.proofs.LookLaws.{past}
+use Rattle.codes.proofs.CheckLaws.{past}
 use Rattle.codes.specs.Sums.{CodeWord, sumFrom, sumOf}
 use Rattle.codes.specs.Encoding.{Encoding}
 use Rattle.codes.proofs.SumLaws.{odd-sums}

@@ -22,7 +22,7 @@ use Rattle.field.specs.Sum.{_⊕_}
 use Rattle.field.specs.Power.{nOf}
 use Rattle.codes.specs.Look.{Known, codeOf, codeChecks, codeVerdict}
 use Rattle.codes.specs.Sums.{sumOf, sumOver}
-use Rattle.codes.proofs.LookLaws.{past, code-passes}
+use Rattle.codes.proofs.CheckLaws.{past, code-passes}
 use Rattle.codes.proofs.SumLaws.{sum-bounded, sum-differences}
 use Rattle.decode.specs.declared.Decoded.{Decoded}
 use Rattle.decode.specs.Decode.{Decodes, Mended, MendsWithin, decodeChecks, asLent}

@@ -15,7 +15,8 @@ use Rattle.field.specs.Power.{nOf}
 use Rattle.codes.specs.Look.{kOf, codeOf, codeVerdict}
 use Rattle.codes.specs.Sums.{CodeWord}
 use Rattle.codes.specs.Encoding.{Encoding}
-use Rattle.codes.proofs.LookLaws.{known-listed, past}
+use Rattle.codes.proofs.LookLaws.{known-listed}
+use Rattle.codes.proofs.CheckLaws.{past}
 use Rattle.codec.specs.declared.describing.Described.{Described}
 use Rattle.codec.specs.Describe.{Describes}
 use Rattle.codec.specs.Encode.{Encodes, encodeChecks}

@@ -23,7 +23,8 @@ use Rattle.codes.specs.declared.Code.{Code}
 use Rattle.codes.specs.Look.{Known, kOf, codeOf, codeVerdict}
 use Rattle.codes.specs.Sums.{CodeWord}
 use Rattle.codes.specs.Encoding.{Encoding}
-use Rattle.codes.proofs.LookLaws.{known-listed, past, code-one}
+use Rattle.codes.proofs.LookLaws.{known-listed}
+use Rattle.codes.proofs.CheckLaws.{past, code-one}
 use Rattle.codes.proofs.SumLaws.{sum-added, sum-zeros}
 use Rattle.codec.specs.Edit.{Edits, Editing, editChecks}
 use Rattle.codec.specs.Work.{EditReady}

@@ -15,7 +15,7 @@ use Rattle.bits.proofs.Turns.{paste-before, paste-after}
 use Rattle.field.specs.Product.{IsField}
 use Rattle.codes.specs.declared.Code.{Code}
 use Rattle.codes.specs.Look.{codeOf, codeVerdict}
-use Rattle.codes.proofs.LookLaws.{past, code-one}
+use Rattle.codes.proofs.CheckLaws.{past, code-one}
 use Rattle.locate.proofs.FindLaws.{one-set}
 use Rattle.decode.specs.declared.Decoded.{Decoded}
 use Rattle.decode.specs.Decode.{Mended}

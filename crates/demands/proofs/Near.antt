@@ -18,7 +18,7 @@ use Rattle.field.specs.Product.{IsField}
 use Rattle.field.specs.Power.{nOf}
 use Rattle.codes.specs.Look.{codeVerdict}
 use Rattle.codes.specs.Sums.{CodeWord, sumOf}
-use Rattle.codes.proofs.LookLaws.{code-one}
+use Rattle.codes.proofs.CheckLaws.{code-one}
 use Rattle.locate.proofs.FindLaws.{one-set}
 use Rattle.decode.specs.declared.Decoded.{Decoded}
 use Rattle.decode.specs.Decode.{Decodes, Mended, Mends, decodeChecks, leftBy}

@@ -11,7 +11,8 @@ use Rattle.field.specs.Power.{nOf}
 use Rattle.codes.specs.Table.{ListedCode}
 use Rattle.codes.specs.declared.Code.{Code}
 use Rattle.codes.specs.Look.{Known}
-use Rattle.codes.proofs.LookLaws.{known-listed, code-one}
+use Rattle.codes.proofs.LookLaws.{known-listed}
+use Rattle.codes.proofs.CheckLaws.{code-one}
 use Rattle.codes.proofs.Rows.{row-facts}
 use Rattle.codes.proofs.Unique.{Roots, one-code-word, roots-of-row}
 use Rattle.generator.proofs.GeneratorLaws.{one-generator}

@@ -10,7 +10,8 @@ use Rattle.bits.specs.Bits.{AreBits}
 use Rattle.bits.proofs.BitLaws.{not-bad}
 use Rattle.codes.specs.Table.{ListedCode, ks, ts, first, firsts}
 use Rattle.codes.specs.Look.{Known, kOf, codeOf, codeVerdict}
-use Rattle.codes.proofs.LookLaws.{listed-k, listed-found, found-known, code-passes}
+use Rattle.codes.proofs.LookLaws.{listed-k, listed-found, found-known}
+use Rattle.codes.proofs.CheckLaws.{code-passes}
 use Rattle.codec.specs.Encode.{encodeChecks}
 use Rattle.decode.specs.Decode.{decodeChecks}
 

@@ -12,8 +12,9 @@ use Rattle.codes.specs.Look.{rowFrom, rowOf, noMore, Checked}
 use Rattle.codes.specs.declared.Look.the-variants.{Passes, Refused}
 use Rattle.sheet.specs.declared.Refusal.the-variants.{NotListed}
 use mathlib.Core.List.{List}
-use Rattle.codes.proofs.LookLaws.{rows-within, rowOf-from, kOf-row, m-small, m-large, m-within, t-listed, t-unlisted}
-use Rattle.codes.proofs.LookLaws.{look-field, look-unlisted, look-listed}
+use Rattle.codes.proofs.LookLaws.{rows-within, rowOf-from, kOf-row}
+use Rattle.codes.proofs.CheckLaws.{m-small, m-large, m-within, t-listed, t-unlisted}
+use Rattle.codes.proofs.CheckLaws.{look-field, look-unlisted, look-listed}
 use borrow.Author.Needs.{needs}
 use Rattle.codes.proofs.look_up.Statement.{statement}
 use Rattle.codes.proofs.look_up.Tie as tie

@@ -1,5 +1,5 @@
 -- The checks, then the search.
-use Rattle.codes.proofs.LookLaws.{passed-known, passed-checks, on-passed, on-refused-as}
+use Rattle.codes.proofs.CheckLaws.{passed-known, passed-checks, on-passed, on-refused-as}
 use Rattle.decode.proofs.DecodeSteps.{decode-ready, left-as-lent}
 use borrow.Author.Needs.{needs}
 use Rattle.decode.proofs.decode.Statement.{statement}

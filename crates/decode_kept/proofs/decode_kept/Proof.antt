@@ -1,5 +1,5 @@
 -- The checks, then the search.
-use Rattle.codes.proofs.LookLaws.{passed-known, passed-checks, on-passed, on-refused-as}
+use Rattle.codes.proofs.CheckLaws.{passed-known, passed-checks, on-passed, on-refused-as}
 use Rattle.decode.proofs.DecodeSteps.{left-as-lent}
 use Rattle.decode_kept.proofs.DecodeKeptLaws.{decode-kept-ready}
 use borrow.Author.Needs.{needs}

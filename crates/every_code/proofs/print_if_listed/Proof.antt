@@ -1,5 +1,5 @@
 -- A code that is looked up and found is known.
-use Rattle.codes.proofs.LookLaws.{passed-known}
+use Rattle.codes.proofs.CheckLaws.{passed-known}
 use borrow.Author.Needs.{needs}
 use Rattle.every_code.proofs.print_if_listed.Statement.{statement}
 use Rattle.every_code.proofs.print_if_listed.Tie as tie

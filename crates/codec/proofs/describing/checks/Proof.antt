@@ -1,7 +1,7 @@
 -- The checks in the order of the sheet.
 use native.Mathlib.Omega.{arith}
 use Rattle.sheet.proofs.VerdictLaws.{equal, unequal}
-use Rattle.codes.proofs.LookLaws.{passed-known, not-found, then-refused, then-passes}
+use Rattle.codes.proofs.CheckLaws.{passed-known, not-found, then-refused, then-passes}
 use borrow.Author.Needs.{needs}
 use Rattle.codec.proofs.describing.checks.Statement.{statement}
 use Rattle.codec.proofs.describing.checks.Tie as tie

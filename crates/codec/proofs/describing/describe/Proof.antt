@@ -1,6 +1,6 @@
 -- The checks, then the generator.
 use Rattle.sheet.proofs.VerdictLaws.{always}
-use Rattle.codes.proofs.LookLaws.{passed-known, passed-checks, on-passed, on-refused}
+use Rattle.codes.proofs.CheckLaws.{passed-known, passed-checks, on-passed, on-refused}
 use Rattle.codec.proofs.DescribeLaws.{describe-ready, described}
 use borrow.Author.Needs.{needs}
 use Rattle.codec.proofs.describing.describe.Statement.{statement}

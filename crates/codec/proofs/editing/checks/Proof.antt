@@ -2,7 +2,7 @@
 use mathlib.Core.Path.{_∙_, sym}
 use Rattle.sheet.proofs.VerdictLaws.{equal, unequal}
 use Rattle.bits.proofs.BitLaws.{bad-bit, no-bad-bit}
-use Rattle.codes.proofs.LookLaws.{not-found, then-refused, then-passes}
+use Rattle.codes.proofs.CheckLaws.{not-found, then-refused, then-passes}
 use borrow.Author.Needs.{needs}
 use Rattle.codec.proofs.editing.checks.Statement.{statement}
 use Rattle.codec.proofs.editing.checks.Tie as tie

@@ -1,6 +1,6 @@
 -- The checks, then the stretch.
 use Rattle.sheet.proofs.VerdictLaws.{always}
-use Rattle.codes.proofs.LookLaws.{passed-known, passed-checks, on-passed, on-refused}
+use Rattle.codes.proofs.CheckLaws.{passed-known, passed-checks, on-passed, on-refused}
 use Rattle.codec.proofs.EditLaws.{edit-ready}
 use borrow.Author.Needs.{needs}
 use Rattle.codec.proofs.editing.edit.Statement.{statement}

@@ -1,5 +1,5 @@
 -- The checks, then the word.
-use Rattle.codes.proofs.LookLaws.{passed-known, passed-checks, on-passed, on-refused}
+use Rattle.codes.proofs.CheckLaws.{passed-known, passed-checks, on-passed, on-refused}
 use Rattle.sheet.proofs.VerdictLaws.{always}
 use Rattle.codec.proofs.EncodeLaws.{encode-ready}
 use borrow.Author.Needs.{needs}

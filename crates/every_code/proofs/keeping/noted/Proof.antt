@@ -1,7 +1,5 @@
 -- A record has 255 sums.
-use mathlib.Core.Path.{_≡_}
 use native.Mathlib.Omega.{arith}
-use lib.ListN.{length}
 use borrow.Author.Needs.{needs}
 use Rattle.every_code.proofs.keeping.noted.Statement.{statement}
 use Rattle.every_code.proofs.keeping.noted.Tie as tie

@@ -1,5 +1,5 @@
 -- Each turn passes a block.
-use Prim.Native.Nat.{_+_, _-_, _≤_}
+use Prim.Native.Nat.{_-_, _≤_}
 use Rattle.codes.specs.Look.{Known}
 use borrow.Author.Needs.{needs}
 use Rattle.every_code.proofs.trials.print_blocks.Statement.{statement}

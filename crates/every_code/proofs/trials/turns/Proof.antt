@@ -1,5 +1,4 @@
 -- Each turn passes a number.
-use mathlib.Core.Path.{_≡_}
 use Prim.Native.Nat.{_-_, _≤_}
 use Rattle.codes.specs.Look.{Known}
 use borrow.Author.Needs.{needs}

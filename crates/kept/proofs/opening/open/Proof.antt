@@ -1,7 +1,7 @@
 -- The checks, then the record.
 use mathlib.Core.Path.{refl}
 use Rattle.sheet.proofs.VerdictLaws.{always}
-use Rattle.codes.proofs.LookLaws.{passed-known, passed-checks, on-passed, on-refused-as}
+use Rattle.codes.proofs.CheckLaws.{passed-known, passed-checks, on-passed, on-refused-as}
 use Rattle.kept.proofs.RecordLaws.{kept-same}
 use Rattle.kept.proofs.OpenLaws.{open-ready}
 use borrow.Author.Needs.{needs}
