@@ -6,6 +6,9 @@ use crate::words::with_parity;
 
 pub const FRAME_BYTES: usize = 32;
 
+/// The listing takes no more frames than these.
+const MOST_FRAMES: usize = 1_000_000;
+
 #[derive(Clone, Copy, Debug, PartialEq)]
 pub struct Reading {
     pub house: u16,
@@ -77,7 +80,8 @@ impl Link {
     /// What the listing prints of these bytes.
     pub fn listing(&self, bytes: &[u8]) -> String {
         let line = |(i, frame): (usize, &[u8])| self.line(i + 1, frame);
-        bytes.chunks(FRAME_BYTES).enumerate().map(line).collect()
+        let frames = bytes.chunks(FRAME_BYTES).take(MOST_FRAMES);
+        frames.enumerate().map(line).collect()
     }
 
     fn line(&self, number: usize, frame: &[u8]) -> String {
@@ -109,6 +113,14 @@ mod tests {
         bytes.extend([0; 5]);
         let expected = "1 read 0 0 0 0\n2 read 0 0 0 2\n3 refused 10\n4 refused 11\n5 refused 9\n";
         assert_eq!(Link::new().listing(&bytes), expected);
+    }
+
+    #[test]
+    fn nothing_after_the_millionth_frame_is_listed() {
+        let bytes = vec![255; 32_000_005];
+        let text = Link::new().listing(&bytes);
+        assert_eq!(text.lines().count(), 1_000_000);
+        assert!(text.ends_with("\n1000000 refused 10\n"));
     }
 
     #[test]

@@ -1,4 +1,4 @@
--- The key equation's run: from a series of sums to a polynomial σ whose roots tell the wrong places.
+-- The key equation's run: from a series of sums to a polynomial σ whose roots tell the wrong places; no promise rests on it.
 use mathlib.Core.Path.{_≡_}
 use mathlib.Core.Bool.{Bool, true, false}
 use mathlib.Core.List.{List, [], _∷_}

@@ -1,4 +1,4 @@
--- What a commutative ring with x ⊕ x = 𝟘 is, and a field of that kind.
+-- What a commutative ring with x ⊕ x = 𝟘 is, and a field of that kind; no promise rests on it.
 use mathlib.Core.Path.{_≡_}
 use mathlib.Core.Logic.{_≢_}
 

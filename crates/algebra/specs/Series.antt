@@ -1,4 +1,5 @@
--- Power series over a ring: place n of a series holds the coefficient of x^n. A polynomial is a series that is zero from some place on.
+-- Power series over a ring; no promise rests on it.
+-- Place n of a series holds the coefficient of x^n. A polynomial is a series that is zero from some place on.
 use mathlib.Core.Path.{_≡_}
 use mathlib.Core.List.{List, [], _∷_, List·Memᴰ}
 use Prim.Native.Nat.{ℕ, zero, suc, _≤_, _<_}

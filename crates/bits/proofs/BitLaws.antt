@@ -12,7 +12,9 @@ use lib.Bits.{bitXor, xor-lt, xor-zero-r, xor-self, xor-comm}
 use lib.Dec.{T, leb, leb→le}
 use lib.ListN.{length, getD, set, take, drop, replicate, length-set, length-replicate, length-map, List·getD-eq-default}
 use lib.Seq.{getD-set-same, getD-set-other, getD-drop}
-use Rattle.bits.specs.Bits.{AreBits, firstAbove, hasBadBit, added, addedAt, flip, flipped, productBits}
+use Rattle.bits.specs.Bits.{AreBits, firstAbove, hasBadBit, added, flip, flipped}
+use Rattle.bits.specs.Work.{addedAt}
+use Rattle.bits.specs.Polynomial.{productBits}
 
 -- one bit
 

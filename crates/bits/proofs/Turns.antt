@@ -11,7 +11,8 @@ use lib.Dec.{ltb}
 use lib.ListN.{length, getD, set, take, drop, take-append-drop, List·getD-append}
 use lib.Seq.{paste, length-paste, length-paste-head, take-at, drop-at, take-append-le, drop-append-le, drop-paste, getD-take}
 use lib.Seq.{getD-drop, getD-append-add, take-all, take-length, take-append-seam, length-take-le}
-use Rattle.bits.specs.Bits.{AreBits, added, addedAt, flip, flipped}
+use Rattle.bits.specs.Bits.{AreBits, added, flip, flipped}
+use Rattle.bits.specs.Work.{addedAt}
 use Rattle.bits.proofs.BitLaws.{bits-append, bits-take, bits-drop, added-none, added-cons, addedAt-zero, addedAt-cons}
 use Rattle.bits.proofs.BitLaws.{addedAt-nil, addedAt-after, flipped-nil, flipped-cons}
 

@@ -1,10 +1,10 @@
 -- Bits lent one to a byte.
 use mathlib.Core.Bool.{Bool, cond}
-use mathlib.Core.List.{List, [], _∷_, map}
-use Prim.Native.Nat.{ℕ, zero, suc, _+_, _-_, _*_, _≤_}
+use mathlib.Core.List.{List, [], _∷_}
+use Prim.Native.Nat.{ℕ, zero, suc, _+_, _-_, _≤_}
 use lib.Bits.{bitXor}
 use lib.Dec.{leb, ltb}
-use lib.ListN.{length, getD, set, replicate}
+use lib.ListN.{length, getD, set}
 
 -- the list of n entries whose entry i is f i
 unfoldable pub listOf : ℕ → (ℕ → ℕ) → List ℕ
@@ -42,14 +42,3 @@ flip xs p = set xs p (1 - getD xs p 0)
 unfoldable pub flipped : List ℕ → List ℕ → List ℕ
 flipped xs [] = xs
 flipped xs (p ∷ ps) = flipped (flip xs p) ps
-
--- ys added into xs from place at on
-unfoldable pub addedAt : List ℕ → ℕ → List ℕ → List ℕ
-addedAt xs zero ys = added xs ys
-addedAt [] (suc at) ys = []
-addedAt (x ∷ xs) (suc at) ys = x ∷ addedAt xs at ys
-
--- the product of two polynomials over bits, place i the coefficient of x^i; it is as long as both together
-unfoldable pub productBits : List ℕ → List ℕ → List ℕ
-productBits [] ys = replicate (length ys) 0
-productBits (x ∷ xs) ys = added (0 ∷ productBits xs ys) (map (λ y. x * y) ys)

@@ -1,2 +1,4 @@
 pub mod Bits
 pub mod Differences
+pub mod Polynomial
+pub mod Work

@@ -5,7 +5,8 @@ ghost use mathlib.Core.List.{List·Memᴰ};
 ghost use Prim.Native.Nat.{ℕ, _+_, _≤_, _<_};
 ghost use lib.ListN.{length, take, replicate};
 ghost use lib.Seq.{paste};
-ghost use Rattle.bits.specs.Bits.{AreBits, firstAbove, runsPast, addedAt, flipped};
+ghost use Rattle.bits.specs.Bits.{AreBits, firstAbove, runsPast, flipped};
+ghost use Rattle.bits.specs.Work.{addedAt};
 
 // The first place that holds more than 1, or the length where there is none.
 pub fn first_above_one(s: &[u8]) -> usize

@@ -7,9 +7,10 @@ use Rattle.sheet.specs.declared.Outcome.the-variants.{Done}
 use Rattle.sheet.specs.Verdict.{verdict}
 use Rattle.sheet.proofs.VerdictLaws.{all-pass, same-of}
 use Rattle.field.specs.Power.{nOf}
-use Rattle.codes.specs.Table.{RowOf, ks, ts}
+use Rattle.codes.specs.Table.{ks, ts}
+use Rattle.codes.specs.Rows.{RowOf}
 use Rattle.codes.specs.declared.Code.{Code}
-use Rattle.codes.specs.Look.{Known}
+use Rattle.codes.specs.Work.{Known}
 use Rattle.generator.specs.Generator.{Generator}
 use Rattle.codec.specs.Describe.{describeChecks, DescriptionOf}
 

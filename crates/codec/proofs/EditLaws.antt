@@ -10,10 +10,11 @@ use lib.Seq.{getD-take}
 use Rattle.sheet.specs.declared.Outcome.the-variants.{Done}
 use Rattle.sheet.specs.Verdict.{verdict}
 use Rattle.sheet.proofs.VerdictLaws.{all-pass, same-of}
-use Rattle.bits.specs.Bits.{AreBits, added, addedAt}
+use Rattle.bits.specs.Bits.{AreBits, added}
+use Rattle.bits.specs.Work.{addedAt}
 use Rattle.bits.proofs.BitLaws.{bits-added, length-added, added-at, added-back, addedAt-zero, xor-cancel-bit, bits-of-not-bad}
 use Rattle.codes.specs.declared.Code.{Code}
-use Rattle.codes.specs.Look.{Known}
+use Rattle.codes.specs.Work.{Known}
 use Rattle.codes.specs.Sums.{CodeWord}
 use Rattle.codes.specs.Encoding.{Encoding}
 use Rattle.parity.specs.Work.{MessageChange}

@@ -8,7 +8,7 @@ use Rattle.sheet.specs.Verdict.{verdict}
 use Rattle.sheet.proofs.VerdictLaws.{all-pass, same-of}
 use Rattle.bits.proofs.BitLaws.{bits-of-not-bad}
 use Rattle.codes.specs.declared.Code.{Code}
-use Rattle.codes.specs.Look.{Known}
+use Rattle.codes.specs.Work.{Known}
 use Rattle.parity.specs.Work.{MessageOf}
 use Rattle.codec.specs.Encode.{encodeChecks}
 

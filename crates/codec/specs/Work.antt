@@ -1,11 +1,11 @@
--- What the checks of Edit leave; no promise of an operation speaks of it.
+-- What the checks of Edit leave; no promise rests on it.
 use mathlib.Core.Path.{_≡_}
 use mathlib.Core.List.{List}
 use Prim.Native.Nat.{ℕ, _+_, _≤_}
 use lib.ListN.{length}
 use Rattle.bits.specs.Bits.{AreBits}
 use Rattle.codes.specs.declared.Code.{Code}
-use Rattle.codes.specs.Look.{Known}
+use Rattle.codes.specs.Work.{Known}
 
 pub record EditReady (c : Code) (word : List ℕ) (start : ℕ) (stretch : List ℕ) : Type 0 where
   pub known : Known c

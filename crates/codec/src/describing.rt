@@ -1,6 +1,6 @@
 // Describe: n, k and the generator of a listed code.
 
-ghost use Rattle.codes.specs.Look.{Checked};
+ghost use Rattle.codes.specs.Work.{Checked};
 ghost use Rattle.codec.specs.Describe.{Describes, describeChecks};
 use codes::Look;
 use sheet::Outcome;

@@ -1,6 +1,6 @@
 // Edit: a stretch of message bits replaced in a word, and what that changes of the parity.
 
-ghost use Rattle.codes.specs.Look.{Checked};
+ghost use Rattle.codes.specs.Work.{Checked};
 ghost use Rattle.codec.specs.Edit.{Edits, Editing, editChecks};
 ghost use Rattle.codec.specs.Work.{EditReady};
 use codes::Code;

@@ -1,6 +1,6 @@
 // Encode: the code word that carries a message in its top places.
 
-ghost use Rattle.codes.specs.Look.{Checked};
+ghost use Rattle.codes.specs.Work.{Checked};
 ghost use Rattle.codec.specs.Encode.{Encodes, encodeChecks};
 use codes::Look;
 use sheet::Outcome;

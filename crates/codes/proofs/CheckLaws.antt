@@ -5,13 +5,14 @@ use mathlib.Core.List.{List, []}
 use Prim.Native.Nat.{ℕ, suc, _≤_, _<_}
 use native.Mathlib.Decide.{decLt}
 use native.Mathlib.Omega.{arith}
-use borrow.Author.Tests.{le-leb, lt-leb, lt-ltb, le-ltb}
+use borrow.Author.Tests.{le-leb, lt-leb, lt-ltb, le-ltb, ltb-true}
 use Rattle.field.specs.Product.{IsField}
 use Rattle.sheet.specs.declared.Refusal.{Refusal}
 use Rattle.sheet.specs.declared.Refusal.the-variants.{FieldSize, NotListed}
 use Rattle.sheet.specs.declared.Outcome.{Outcome}
 use Rattle.sheet.specs.declared.Outcome.the-variants.{Done, Refused}
-use Rattle.sheet.specs.Verdict.{Check, verdict, AllPass}
+use Rattle.sheet.specs.Verdict.{Check, verdict}
+use Rattle.sheet.specs.Work.{AllPass}
 use Rattle.sheet.proofs.VerdictLaws.{Verdict, passed, refused, verdict-cases, none-refuses, not-done, earlier-refuse, earlier-pass}
 use Rattle.sheet.proofs.VerdictLaws.{refuses-as, does, promise-one}
 use Rattle.codes.specs.declared.Code.{Code}
@@ -19,7 +20,8 @@ use Rattle.codes.specs.declared.Look.{Look}
 use Rattle.codes.specs.declared.Look.the-variants.{Passes}
 use Rattle.codes.specs.declared.Look.the-variants.{Refused as Refuses}
 use Rattle.codes.specs.Table.{first}
-use Rattle.codes.specs.Look.{rowOf, isField, isListed, codeOf, codeChecks, codeVerdict, noMore, passing, Checked, CodePromise, Known}
+use Rattle.codes.specs.Look.{rowOf, isField, isListed, codeOf, codeChecks, codeVerdict, CodePromise}
+use Rattle.codes.specs.Work.{noMore, passing, Checked, Known}
 use Rattle.codes.proofs.LookLaws.{found-known, known-listed, listed-test}
 
 -- the first two checks: one of them refuses, or (m, t) is a listed code
@@ -38,6 +40,17 @@ m-large {m} h k = rw (le-leb 3 m h, lt-leb m 10 k)
 pub m-within : {m : ℕ} → IsField m → isField m ≡ true
 m-within {m} L = rw (le-leb 3 m (L .least), le-leb m 10 (L .most))
 
+pub within-m : (m : ℕ) → isField m ≡ true → IsField m
+within-m m e = pick (decLt m 3) (decLt 10 m)
+  where
+    clash : isField m ≡ false → ⊥
+    clash f = let z : _≡_ {A = ℕ} 0 1 = cc in omega arith
+
+    pick : Dec (m < 3) → Dec (10 < m) → IsField m
+    pick (yes h) d = absurd (clash (m-small h))
+    pick (no n) (yes h) = absurd (clash (m-large (omega arith) h))
+    pick (no n) (no p) = record { least = omega arith; most = omega arith }
+
 -- and t, by the row that is found for it
 pub t-listed : (m t : ℕ) → rowOf m t < first (suc m) → isListed m t ≡ true
 unfolding isListed
@@ -46,6 +59,10 @@ t-listed m t h = lt-ltb (rowOf m t) (first (suc m)) h
 pub t-unlisted : (m t : ℕ) → first (suc m) ≤ rowOf m t → isListed m t ≡ false
 unfolding isListed
 t-unlisted m t h = le-ltb (rowOf m t) (first (suc m)) h
+
+pub listed-t : (m t : ℕ) → isListed m t ≡ true → rowOf m t < first (suc m)
+unfolding isListed
+listed-t m t e = ltb-true (rowOf m t) (first (suc m)) e
 
 pub first-two : (m t : ℕ) → FirstTwo m t
 first-two m t = tells (decLt m 3) (decLt 10 m)

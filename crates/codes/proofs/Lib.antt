@@ -4,6 +4,8 @@ pub mod Walk
 pub mod Listed
 pub mod Rows
 pub mod LookLaws
+pub mod AllRows
 pub mod CheckLaws
 pub mod SumLaws
+pub mod Ones
 pub mod Unique

@@ -8,7 +8,8 @@ use native.Mathlib.Omega.{arith}
 use lib.ListN.{getD}
 use Rattle.field.specs.Product.{IsField}
 use Rattle.field.specs.Power.{nOf}
-use Rattle.codes.specs.Table.{ks, ts, ListedCode, before-k, before-t}
+use Rattle.codes.specs.Table.{ks, ts}
+use Rattle.codes.specs.Rows.{ListedCode, before-k, before-t}
 use Rattle.codes.specs.Rule.{Residue, Count, Rule}
 use Rattle.codes.proofs.Count.{count-unique, count-nearly-all}
 use Rattle.codes.proofs.Lead.{lead, n-positive, residue-lead, lead-at-most, all-residues}

@@ -11,8 +11,10 @@ use Rattle.field.specs.Product.{IsField}
 use Rattle.field.proofs.Tests.{both, both-left, both-right, passes, passed-at, at-listed}
 use Rattle.field.proofs.Range.{sizes}
 use Rattle.codes.specs.declared.Code.{Code}
-use Rattle.codes.specs.Table.{ks, ts, first, firsts, ListedCode}
-use Rattle.codes.specs.Look.{rowFrom, rowOf, isListed, kOf, codeOf, Known}
+use Rattle.codes.specs.Table.{ks, ts, first, firsts, listedCodes}
+use Rattle.codes.specs.Rows.{ListedCode}
+use Rattle.codes.specs.Look.{rowFrom, rowOf, isListed, kOf, codeOf}
+use Rattle.codes.specs.Work.{Known}
 use Rattle.codes.proofs.Rows.{row-unique, row-facts}
 
 pub rowFrom-none : (r t : ℕ) → rowFrom 0 r t ≡ r
@@ -30,7 +32,7 @@ pub rowFrom-later : (left r t : ℕ) → (getD ts r 0 ≡ t → ⊥) → rowFrom
 rowFrom-later left r t e = rw (rowFrom-suc left r t, ne-eqb (getD ts r 0) t e)
 
 pub ts-long : length ts ≡ 232
-unfolding ts
+unfolding ts listedCodes
 ts-long = refl
 
 -- the rows of m stand in the table
@@ -137,7 +139,7 @@ smallTest : ℕ → Bool
 smallTest r = leb (getD ts r 0) 255
 
 small-tested : T (passes smallTest 0 232)
-unfolding smallTest ts
+unfolding smallTest ts listedCodes
 small-tested = tt
 
 pub known-listed : {c : Code} → Known c → ListedCode (c .m) (c .k) (c .t)

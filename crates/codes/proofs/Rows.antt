@@ -8,7 +8,8 @@ use native.Mathlib.Omega.{arith}
 use lib.ListN.{getD}
 use lib.Seq.{getD-drop}
 use Rattle.field.specs.Power.{nOf}
-use Rattle.codes.specs.Table.{ks, ts, first, RowOf, before-k, before-t}
+use Rattle.codes.specs.Table.{ks, ts, first}
+use Rattle.codes.specs.Rows.{RowOf, before-k, before-t}
 use Rattle.codes.specs.Rule.{Residue, Count}
 use Rattle.codes.proofs.Count.{count-nothing, count-rest}
 use Rattle.codes.proofs.Lead.{lead, doublings-add, lead-least, lead-reaches, lead-positive, lead-at-most, lead-same, residue-lead}

@@ -8,7 +8,8 @@ use native.Mathlib.Omega.{arith}
 use lib.Bits.{bitXor}
 use lib.ListN.{length, getD, replicate, length-append, length-replicate}
 use lib.Pow.{pow-pos}
-use Rattle.bits.specs.Bits.{AreBits, added, addedAt, flip, flipped}
+use Rattle.bits.specs.Bits.{AreBits, added, flip, flipped}
+use Rattle.bits.specs.Work.{addedAt}
 use Rattle.bits.specs.Differences.{differences}
 use Rattle.bits.proofs.DistanceLaws.{differences-place, flipped-differences}
 use Rattle.bits.proofs.BitLaws.{addedAt-at, bit-cases, bits-head, bits-tail, bits-cons, bits-replicate, bits-ones, bits-append}
@@ -118,12 +119,12 @@ module _ {m : ℕ} (L : IsField m) where
   sum-bounded j [] b = rw (sumOf-nil m j) (pow-pos m)
   sum-bounded j (x ∷ xs) b = rw (sum-cons j x xs b) (sum-bound m (bit-bound (bits-head b)) (product-bound L (power m a j) (sumOf m j xs)))
 
-  next-power : (k j : ℕ) → power m a (suc k * j) ≡ power m a j ⊗⟨ m ⟩ power m a (k * j)
+  pub next-power : (k j : ℕ) → power m a (suc k * j) ≡ power m a j ⊗⟨ m ⟩ power m a (k * j)
   next-power k j =
       let e : suc k * j ≡ j + k * j = omega (arith, suc-mul k j) in
       ap (power m a) e ∙ power-add L a j (k * j)
 
-  first-power : (j : ℕ) → power m a (0 * j) ≡ 1
+  pub first-power : (j : ℕ) → power m a (0 * j) ≡ 1
   first-power j = rw (zero-mul j) (power-zero m a)
 
   append-shape : (x p y q z : ℕ) → x ⊕ p ⊗⟨ m ⟩ (y ⊕ q ⊗⟨ m ⟩ z) ≡ x ⊕ p ⊗⟨ m ⟩ y ⊕ p ⊗⟨ m ⟩ q ⊗⟨ m ⟩ z
@@ -182,7 +183,7 @@ module _ {m : ℕ} (L : IsField m) where
       ∙ append-shape x (power m a j) (sumOf m j xs) (power m a (at * j)) (sumOf m j ys)
       ∙ sym (ap₂ (λ y z. y ⊕ z ⊗⟨ m ⟩ sumOf m j ys) (sum-cons j x xs b) (next-power at j))
 
-  sum-one : (j : ℕ) → sumOf m j (1 ∷ []) ≡ 1
+  pub sum-one : (j : ℕ) → sumOf m j (1 ∷ []) ≡ 1
   sum-one j = sum-cons j 1 [] (bits-ones 1) ∙ (rw (sumOf-nil m j) (simp (product-zero, sum-zero)))
 
   pub sum-flip : (j : ℕ) (xs : List ℕ) (p : ℕ) → AreBits xs → p < length xs → sumOf m j (flip xs p) ≡ sumOf m j xs ⊕ power m a (p * j)

@@ -20,7 +20,8 @@ use Rattle.field.proofs.ProductLaws.{product-zero}
 use Rattle.field.proofs.PowerLaws.{power-bound, one-bound}
 use Rattle.field.proofs.Order.{power-injective, eight-bound}
 use Rattle.field.proofs.Field.{Element, el-path, element, ringOf, field}
-use Rattle.codes.specs.Table.{ks, ts, RowOf}
+use Rattle.codes.specs.Table.{ks, ts}
+use Rattle.codes.specs.Rows.{RowOf}
 use Rattle.codes.specs.Rule.{Residue}
 use Rattle.codes.specs.Sums.{sumOf, CodeWord}
 use Rattle.codes.proofs.Count.{members, members-distinct}

@@ -12,7 +12,8 @@ use lib.ListN.{getD, drop}
 use lib.Seq.{getD-drop}
 use Rattle.field.specs.Product.{IsField}
 use Rattle.field.specs.Power.{nOf}
-use Rattle.codes.specs.Table.{ks, ts, firsts, first, RowOf, before-k, before-t}
+use Rattle.codes.specs.Table.{ks, ts, firsts, first, listedCodes}
+use Rattle.codes.specs.Rows.{RowOf, before-k, before-t}
 use Rattle.codes.specs.Rule.{Residue, Count}
 use Rattle.codes.proofs.Count.{down, passing, count-computed}
 use Rattle.codes.proofs.Lead.{lead, residue-lead}
@@ -50,7 +51,7 @@ walkOf m =
     walk m leads (first (suc m) - first m) (nOf m) 0 (drop (first m) ks) (drop (first m) ts)
 
 walked : {m : ℕ} → IsField m → T (walkOf m)
-unfolding lead ks ts firsts first
+unfolding lead ks ts listedCodes firsts first
 walked = at-listed walkOf tt
 
 -- what the walk tells of the row (k, t) after the row (kb, s)

@@ -3,3 +3,5 @@ pub mod Rule
 pub mod Sums
 pub mod Look
 pub mod Encoding
+pub mod Rows
+pub mod Work

@@ -1,20 +1,15 @@
 -- Looking a code up: the field sizes, the row of a listed t, its k.
-use mathlib.Core.Path.{_≡_}
 use mathlib.Core.Bool.{Bool, cond, not, _&&_}
-use mathlib.Core.List.{List, [], _∷_}
-use Prim.Native.Nat.{ℕ, zero, suc, _-_, _≤_}
+use mathlib.Core.List.{List, _∷_}
+use Prim.Native.Nat.{ℕ, zero, suc, _-_}
 use lib.Dec.{leb, ltb, eqb}
 use lib.ListN.{getD}
 use Rattle.sheet.specs.declared.Refusal.the-variants.{FieldSize, NotListed}
 use Rattle.sheet.specs.declared.Outcome.{Outcome}
-use Rattle.sheet.specs.declared.Outcome.the-variants.{Done, Refused}
 use Rattle.sheet.specs.Verdict.{Check, _⇒_, verdict, Promise}
 use Rattle.field.specs.Power.{nOf}
-use Rattle.codes.specs.Table.{ks, ts, first, RowOf}
+use Rattle.codes.specs.Table.{ks, ts, first}
 use Rattle.codes.specs.declared.Code.{Code}
-use Rattle.codes.specs.declared.Look.{Look}
-use Rattle.codes.specs.declared.Look.the-variants.{Passes}
-use Rattle.codes.specs.declared.Look.the-variants.{Refused as Refuses}
 
 -- m is from 3 to 10
 abbrev pub isField : ℕ → Bool
@@ -44,36 +39,11 @@ codeOf m t = record { m = m; t = t; row = rowOf m t; n = nOf m; k = kOf m t }
 abbrev pub codeChecks : ℕ → ℕ → List Check → List Check
 codeChecks m t later = (not (isField m) ⇒ FieldSize) ∷ (not (isListed m t) ⇒ NotListed) ∷ later
 
--- no check after the first two
-abbrev pub noMore : Code → List Check
-noMore c = []
-
--- the code where nothing is refused, and the refusal where something is
-abbrev pub passing : Outcome → Code → Look
-passing Done c = Passes c
-passing (Refused r) c = Refuses r
-
 -- what the first two checks and then those that an operation makes of the code come to
 abbrev pub codeVerdict : ℕ → ℕ → (Code → List Check) → Outcome
 codeVerdict m t checks = verdict (codeChecks m t (checks (codeOf m t)))
-
--- what running down all these checks answers
-pub record Checked (m t : ℕ) (checks : Code → List Check) (look : Look) : Type 0 where
-  pub is : look ≡ passing (codeVerdict m t checks) (codeOf m t)
 
 -- the promise of an operation on a code: its own checks, and what it does, are said of the code
 pub record CodePromise {L : Type 0} (m t : ℕ) (checks : Code → List Check) (Does : Code → Outcome → L → Type 0) (stays : L) (answer : Outcome)
     (left : L) : Type 0 where
   pub promise : Promise (codeChecks m t (checks (codeOf m t))) (Does (codeOf m t)) stays answer left
-
--- what is known of a code that was looked up
-pub record Known (c : Code) : Type 0 where
-  pub of-m : RowOf (c .m) (c .row)
-  pub is-t : c .t ≡ getD ts (c .row) 0
-  pub is-k : c .k ≡ getD ks (c .row) 0
-  pub is-n : c .n ≡ nOf (c .m)
-  pub positive : 1 ≤ c .t
-  pub most : c .t ≤ 255
-  pub some : 1 ≤ c .k
-  pub within : c .k ≤ c .n
-  pub small : c .n ≤ 1023

@@ -3,7 +3,8 @@
 ghost use mathlib.Core.Path.{_≡_};
 ghost use Prim.Native.Nat.{_-_, _≤_};
 ghost use Rattle.codes.specs.Table.{ts as Table·ts};
-ghost use Rattle.codes.specs.Look.{rowFrom, noMore, Checked};
+ghost use Rattle.codes.specs.Look.{rowFrom};
+ghost use Rattle.codes.specs.Work.{noMore, Checked};
 
 mod table;
 

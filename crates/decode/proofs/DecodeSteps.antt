@@ -11,12 +11,13 @@ use Rattle.sheet.proofs.VerdictLaws.{all-pass, same-of}
 use Rattle.bits.specs.Bits.{flipped}
 use Rattle.bits.proofs.BitLaws.{bits-of-not-bad}
 use Rattle.codes.specs.declared.Code.{Code}
-use Rattle.codes.specs.Look.{Known}
+use Rattle.codes.specs.Work.{Known}
 use Rattle.codes.specs.Sums.{CodeWord}
 use Rattle.locate.specs.declared.Search.{Search}
 use Rattle.locate.specs.declared.Found.{Found}
 use Rattle.locate.specs.declared.Found.the-variants.{Places, Nothing}
-use Rattle.locate.specs.Located.{Located, Tells, Searched, WordSearched}
+use Rattle.locate.specs.Located.{Located}
+use Rattle.locate.specs.Search.{Tells, Searched, WordSearched}
 use Rattle.decode.specs.declared.Decoded.{Decoded}
 use Rattle.decode.specs.Decode.{MendsWithin, decodeChecks, leftBy, asLent}
 use Rattle.decode.specs.Work.{DecodeReady, WrongPlaces, PutDown}

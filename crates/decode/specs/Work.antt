@@ -1,4 +1,4 @@
--- What the steps of Decode hand to each other; no promise of an operation speaks of it.
+-- What the steps of Decode hand to each other; no promise rests on it.
 use mathlib.Core.Path.{_≡_}
 use mathlib.Core.List.{List, _++_}
 use Prim.Native.Nat.{ℕ, _-_, _≤_}
@@ -6,9 +6,9 @@ use lib.ListN.{length, take, replicate}
 use Rattle.sheet.specs.declared.Outcome.the-variants.{Done}
 use Rattle.bits.specs.Bits.{AreBits}
 use Rattle.codes.specs.declared.Code.{Code}
-use Rattle.codes.specs.Look.{Known}
+use Rattle.codes.specs.Work.{Known}
 use Rattle.codes.specs.Sums.{CodeWord}
-use Rattle.sums.specs.Rows.{OddSums}
+use Rattle.sums.specs.OddSums.{OddSums}
 use Rattle.locate.specs.Located.{Located}
 use Rattle.decode.specs.declared.Decoded.{Decoded}
 

@@ -3,7 +3,7 @@
 ghost use mathlib.Core.Path.{_≡_};
 ghost use mathlib.Core.Bool.{true};
 ghost use Rattle.sheet.specs.declared.Outcome.the-variants.{Refused};
-ghost use Rattle.codes.specs.Look.{Checked, Known};
+ghost use Rattle.codes.specs.Work.{Checked, Known};
 ghost use Rattle.codes.specs.Sums.{CodeWord};
 ghost use Rattle.decode.specs.Decode.{Decodes, MendsWithin, decodeChecks, leftBy};
 ghost use Rattle.decode.specs.Work.{DecodeReady, WrongPlaces, FirstAreWrong, CanPut, PutDown};

@@ -11,7 +11,7 @@ use Rattle.sheet.proofs.VerdictLaws.{all-pass, same-of}
 use Rattle.bits.specs.Bits.{flipped}
 use Rattle.bits.proofs.Turns.{copied-whole}
 use Rattle.codes.specs.declared.Code.{Code}
-use Rattle.codes.specs.Look.{Known}
+use Rattle.codes.specs.Work.{Known}
 use Rattle.kept.specs.declared.Kept.{Kept}
 use Rattle.kept.proofs.RecordLaws.{sound}
 use Rattle.decode_kept.specs.DecodeKept.{MendsKept, decodeKeptChecks}

@@ -1,10 +1,10 @@
--- What the steps of Decode kept hand to each other; no promise of an operation speaks of it.
+-- What the steps of Decode kept hand to each other; no promise rests on it.
 use mathlib.Core.Path.{_≡_}
 use mathlib.Core.List.{List}
 use Prim.Native.Nat.{ℕ, _≤_}
 use lib.ListN.{length, take}
 use Rattle.codes.specs.declared.Code.{Code}
-use Rattle.codes.specs.Look.{Known}
+use Rattle.codes.specs.Work.{Known}
 use Rattle.locate.specs.Located.{Located}
 use Rattle.kept.specs.declared.Kept.{Kept}
 use Rattle.kept.specs.Work.{Sound}

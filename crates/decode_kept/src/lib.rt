@@ -1,7 +1,7 @@
 // Decode kept: the places that have the stored sums, turned over in the stored bits.
 
 ghost use Rattle.sheet.specs.Verdict.{Always, Searches};
-ghost use Rattle.codes.specs.Look.{Checked};
+ghost use Rattle.codes.specs.Work.{Checked};
 ghost use Rattle.decode.specs.Decode.{asLent, leftBy};
 ghost use Rattle.decode_kept.specs.DecodeKept.{DecodesKept, MendsKept, NoSet, decodeKeptChecks};
 ghost use Rattle.decode_kept.specs.Work.{KeptReady, CanPutStored};

@@ -20,7 +20,7 @@ use Rattle.field.specs.Sum.{_⊕_}
 use Rattle.field.specs.Product.{IsField, polynomials, polynomial, digits, horner, carryless, shifted, remainder, _⊗⟨_⟩_}
 use Rattle.field.specs.Power.{nOf, power}
 use Rattle.field.proofs.Tests.{both, both-left, both-right, all, All, done, also, all-passed, passes, passed-at}
-use Rattle.codes.specs.Table.{first, firsts, ks, ts}
+use Rattle.codes.specs.Table.{first, firsts, ks, ts, listedCodes}
 use Rattle.codes.specs.Look.{rowFrom, rowOf, isListed, kOf, codeOf, codeVerdict}
 use Rattle.codes.proofs.CheckLaws.{past}
 use Rattle.codes.specs.Sums.{CodeWord, sumFrom, sumOf}
@@ -272,8 +272,8 @@ tests (c ∷ cs) = both (test c) (tests cs)
 
 tested : T (tests cases)
 unfolding tests cases test sentTests mendedTests farTests checksPass isDone isCodeWord hasSums sameList bitsAt noSet zeroes plusPlace listOf isListed
-    rowOf rowFrom kOf first firsts ks ts firstAbove flip flipped differences differencesFrom sumOf sumFrom power _⊗⟨_⟩_ remainder carryless horner
-    digits shifted polynomial polynomials _⊕_
+    rowOf rowFrom kOf first firsts ks ts listedCodes firstAbove flip flipped differences differencesFrom sumOf sumFrom power _⊗⟨_⟩_ remainder
+    carryless horner digits shifted polynomial polynomials _⊕_
 tested = tt
 
 each : (cs : List Case) → T (tests cs) → (c : Case) → List·Memᴰ c cs → Holds c

@@ -1,26 +1,28 @@
--- After any splices Decode kept answers as Decode does on the bits as they then are: the kept sums are those of the bits at all times.
-use mathlib.Core.Path.{_≡_, _∙_, sym, ap, ap₂, subst}
-use mathlib.Core.Bool.{Bool, false, not}
+-- After any splices the record is the one that Open gives for the resulting bits, so Decode kept answers as Decode does for them.
+use mathlib.Core.Path.{_≡_, _∙_, refl, sym, ap, ap₂, subst}
+use mathlib.Core.Bool.{Bool, true, false, not, cond, _||_, true≢false}
 use mathlib.Core.List.{List, [], _∷_, _++_}
+use mathlib.Core.Logic.{_≢_}
 use Prim.Native.Nat.{ℕ, _+_, _-_, _*_, _≤_, _<_}
 use native.Mathlib.Omega.{arith}
 use borrow.Author.Tests.{le-ltb}
 use lib.Dec.{eqb}
 use lib.ListN.{length, getD, take, drop, replicate, length-append, length-replicate}
-use lib.Seq.{paste, length-paste, length-take-le, take-at, take-length, drop-at}
+use lib.Seq.{paste, length-paste, length-take-le, take-at}
 use Rattle.sheet.specs.declared.Outcome.{Outcome}
 use Rattle.sheet.specs.declared.Outcome.the-variants.{Done}
 use Rattle.sheet.specs.declared.Refusal.the-variants.{InputLength, OutputLength, BitAboveOne, RecordContents}
 use Rattle.sheet.specs.Verdict.{Check, _⇒_, verdict, Searches, finds, finds-nothing}
-use Rattle.sheet.proofs.VerdictLaws.{Verdict, passed, refused, verdict-cases, equal}
-use Rattle.bits.specs.Bits.{AreBits, runsPast}
+use Rattle.sheet.proofs.VerdictLaws.{equal, done-passed}
+use Rattle.bits.specs.Bits.{AreBits, hasBadBit, runsPast}
 use Rattle.bits.specs.Differences.{differences}
 use Rattle.bits.proofs.BitLaws.{not-bad}
 use Rattle.bits.proofs.DistanceLaws.{differences-front}
-use Rattle.bits.proofs.Turns.{bits-paste, paste-front}
+use Rattle.bits.proofs.Turns.{bits-paste, copied-whole, paste-front, paste-part}
 use Rattle.field.specs.Sum.{_⊕_}
 use Rattle.field.specs.Power.{nOf}
-use Rattle.codes.specs.Look.{Known, codeOf, codeChecks, codeVerdict}
+use Rattle.codes.specs.Look.{codeOf, codeChecks, codeVerdict}
+use Rattle.codes.specs.Work.{Known}
 use Rattle.codes.specs.Sums.{sumOf, sumOver}
 use Rattle.codes.proofs.CheckLaws.{past, code-passes}
 use Rattle.codes.proofs.SumLaws.{sum-bounded, sum-differences}
@@ -29,7 +31,7 @@ use Rattle.decode.specs.Decode.{Decodes, Mended, MendsWithin, decodeChecks, asL
 use Rattle.decode.proofs.DecodeLaws.{mends, nothing-near}
 use Rattle.kept.specs.declared.Kept.{Kept}
 use Rattle.kept.specs.declared.Answer.{Answer}
-use Rattle.kept.specs.Record.{badRecord}
+use Rattle.kept.specs.Record.{Whole, badRecord}
 use Rattle.kept.specs.Open.{Opens, Opened, openChecks}
 use Rattle.kept.specs.Work.{OpenReady}
 use Rattle.kept.proofs.OpenLaws.{open-ready}
@@ -37,8 +39,9 @@ use Rattle.kept.proofs.RecordLaws.{sound-passes}
 use Rattle.splice.specs.Splice.{Splices, Spliced, spliceChecks}
 use Rattle.splice.specs.Work.{SpliceReady}
 use Rattle.decode_kept.specs.DecodeKept.{DecodesKept, MendsKept, NoSet, decodeKeptChecks}
+use Rattle.demands.specs.Words.{After, spliced, resulting}
 use Rattle.demands.proofs.Near.{decode-one}
-use Rattle.demands.proofs.KeptOutcome.{spliceVerdict, keptCode, splice-accepted, answer-same, opened-one}
+use Rattle.demands.proofs.KeptOutcome.{spliceVerdict, keptCode, splice-accepted, splice-refused, answer-same, opened-one}
 
 -- the word that a record keeps
 abbrev pub kept-word : Kept → List ℕ
@@ -47,14 +50,13 @@ kept-word stored = take (nOf (stored .m)) (stored .bits)
 -- a listed code, n bits, and the first t sums are theirs
 pub record Faithful (stored : Kept) : Type 0 where
   pub known : Known (keptCode stored)
-  pub bits-long : length (stored .bits) ≡ 1023
-  pub sums-long : length (stored .sums) ≡ 255
+  pub whole : Whole stored
   pub bits : AreBits (kept-word stored)
   pub sums : (i : ℕ) → i < stored .t → getD (stored .sums) i 0 ≡ sumOf (stored .m) (2 * i + 1) (kept-word stored)
 
 module _ {stored : Kept} (F : Faithful stored) where
   fits : nOf (stored .m) ≤ length (stored .bits)
-  fits = omega (arith, F .bits-long, F .known .small)
+  fits = omega (arith, F .whole .bits, F .known .small)
 
   word-long : length (kept-word stored) ≡ nOf (stored .m)
   word-long = length-take-le (nOf (stored .m)) (stored .bits) fits
@@ -78,10 +80,12 @@ module _ {m t : ℕ} {word : List ℕ} {stored : Kept} (R : OpenReady (codeOf m 
   opened-faithful =
       record {
         known = rw (O .m-is, O .t-is) (R .known);
-        bits-long =
-            ap length (O .bits-are)
-            ∙ omega (arith, R .long, R .known .small, length-append word (replicate (1023 - nOf m) 0), length-replicate {A = ℕ} (1023 - nOf m) 0);
-        sums-long = sym (O .sums-are .long);
+        whole = record {
+          bits =
+              ap length (O .bits-are)
+              ∙ omega (arith, R .long, R .known .small, length-append word (replicate (1023 - nOf m) 0), length-replicate {A = ℕ} (1023 - nOf m) 0);
+          sums = sym (O .sums-are .long);
+        };
         bits = subst AreBits (sym opened-word) (R .bits);
         sums = λ i h.
             O .sums-are .holds i (omega (arith, O .t-is))
@@ -91,9 +95,6 @@ module _ {m t : ℕ} {word : List ℕ} {stored : Kept} (R : OpenReady (codeOf m 
 -- what the checks of an accepted Open leave
 open-accepted : (m t : ℕ) (word : List ℕ) → codeVerdict m t (openChecks word) ≡ Done → OpenReady (codeOf m t) word
 open-accepted m t word z = let p = past m t (openChecks word (codeOf m t)) z in open-ready word (p .known) (p .rest)
-
-pub open-faithful : {m t : ℕ} {word : List ℕ} {x : Answer} → codeVerdict m t (openChecks word) ≡ Done → Opens m t word x → Faithful (x .record)
-open-faithful {m} {t} {word} z p = opened-faithful (open-accepted m t word z) (p .promise .done z .did)
 
 -- a splice
 
@@ -130,27 +131,10 @@ module _ {stored after : Kept} {start : ℕ} {stretch : List ℕ} (F : Faithful 
   spliced-faithful =
       record {
         known = rw (S .m-is, S .t-is) (F .known);
-        bits-long = long-after ∙ F .bits-long;
-        sums-long = S .sums-long ∙ F .sums-long;
+        whole = S .is-whole;
         bits = bits-after;
         sums = λ i h. sums-after i (omega (arith, S .t-is)) ∙ ap (λ (x : ℕ). sumOf x (2 * i + 1) (kept-word after)) (sym (S .m-is));
       }
-
-pub splice-faithful : {stored : Kept} {start : ℕ} {stretch : List ℕ} {x : Answer} → Faithful stored → Splices stored start stretch x → Faithful (x .record)
-splice-faithful {stored} {start} {stretch} {x} F p = pick (verdict-cases (spliceVerdict stored start stretch))
-  where
-    pick : Verdict (spliceVerdict stored start stretch) → Faithful (x .record)
-    pick (passed z) = spliced-faithful F (splice-accepted stored start stretch z) (p .promise .done z .did)
-    pick (refused r z) = subst Faithful (sym (p .promise .refused r z .1)) F
-
--- one splice after another, accepted or refused, each with any answer that the promise allows: a start and a stretch for each
-abbrev pub After : Kept → List (ℕ × List ℕ) → Kept → Type 0
-After stored [] after = stored ≡ after
-After stored (s ∷ splices) after = (x : Answer) × Splices stored (s .0) (s .1) x × After (x .record) splices after
-
-pub after-faithful : {stored after : Kept} (splices : List (ℕ × List ℕ)) → Faithful stored → After stored splices after → Faithful after
-after-faithful [] F e = subst Faithful e F
-after-faithful (s ∷ splices) F (x, p, rest) = after-faithful splices (splice-faithful F p) rest
 
 -- what Decode kept does with a faithful record is what Decode does with its word
 module _ {stored : Kept} (F : Faithful stored) (lentWord lentList : List ℕ) where
@@ -184,56 +168,120 @@ module _ {stored : Kept} (F : Faithful stored) (lentWord lentList : List ℕ) wh
       → Decodes (stored .m) (stored .t) (kept-word stored) lentWord lentList y word′ list′ → (x ≡ y) × (word ≡ word′) × (list ≡ list′)
   faithful-decodes p q = decode-one (decodes-kept p) q
 
--- after an accepted Open and any splices, what Decode kept gives and what Decode gives on the bits as they then are is the same: answer, word and list
-pub kept-as-decoded : {m t : ℕ} {word lentWord lentList word₁ list₁ word₂ list₂ : List ℕ} {x : Answer} {stored : Kept} {y z : Decoded}
-    (splices : List (ℕ × List ℕ)) → codeVerdict m t (openChecks word) ≡ Done → Opens m t word x → After (x .record) splices stored
-    → DecodesKept stored lentWord lentList y word₁ list₁ → Decodes (stored .m) (stored .t) (kept-word stored) lentWord lentList z word₂ list₂
-    → (y ≡ z) × (word₁ ≡ word₂) × (list₁ ≡ list₂)
-kept-as-decoded {lentWord = lentWord} {lentList} splices z o a p q = faithful-decodes (after-faithful splices (open-faithful z o) a) lentWord lentList p q
+-- a splice into an opened record
 
--- the whole word spliced into an opened record
-module _ {m t : ℕ} {word stretch : List ℕ} {stored : Kept} (R : OpenReady (codeOf m t) word) (O : Opened word (codeOf m t) stored)
-    (Q : OpenReady (codeOf m t) stretch) where
-  whole-accepted : spliceVerdict stored 0 stretch ≡ Done
-  whole-accepted =
-      let F = opened-faithful R O in
-      let ends : runsPast 0 (length stretch) (nOf (stored .m)) ≡ false =
-      le-ltb (nOf (stored .m)) (0 + length stretch) (omega (arith, Q .long, ap nOf (O .m-is))) in
-      code-passes (F .known) (spliceChecks stored 0 stretch (keptCode stored)) (passes F, (ends, (not-bad (Q .bits), tt)))
+module _ {m t : ℕ} {word : List ℕ} {stored : Kept} (R : OpenReady (codeOf m t) word) (O : Opened word (codeOf m t) stored) (start : ℕ) (stretch : List ℕ) where
+  faithful : Faithful stored
+  faithful = opened-faithful R O
 
-  whole-bits : {after : Kept} → Spliced (keptCode stored) stored 0 stretch after → after .bits ≡ stretch ++ replicate (1023 - nOf m) 0
-  whole-bits S =
-      S .bits-are
-      ∙ ap₂ (λ (x y : List ℕ). x ++ drop (0 + length stretch) y) (take-length stretch) (O .bits-are)
-      ∙ ap (λ (xs : List ℕ). stretch ++ xs) (drop-at word (replicate (1023 - nOf m) 0) (0 + length stretch) (omega (arith, R .long, Q .long)))
+  same-end : runsPast start (length stretch) (length word) ≡ runsPast start (length stretch) (nOf (stored .m))
+  same-end = ap (runsPast start (length stretch)) (R .long ∙ sym (ap nOf (O .m-is)))
 
-  whole-opened : {after : Kept} → Spliced (keptCode stored) stored 0 stretch after → Opened stretch (codeOf m t) after
-  whole-opened {after} S =
-      let F = opened-faithful R O in
-      let s = spliced-faithful F (splice-accepted stored 0 stretch whole-accepted) S in
-      record {
-        m-is = S .m-is ∙ O .m-is;
-        t-is = S .t-is ∙ O .t-is;
-        bits-are = whole-bits S;
-        sums-are = record {
-          long = sym (s .sums-long);
-          holds = λ i h.
-              s .sums i (omega (arith, S .t-is, O .t-is)) ∙ ap₂ (λ (x : ℕ) (xs : List ℕ). sumOf x (2 * i + 1) xs) (S .m-is ∙ O .m-is) whole;
-          rest = λ i h. S .sums-rest i (omega (arith, O .t-is)) ∙ O .sums-are .rest i h;
-        };
-      }
+  -- it is accepted exactly if the stretch ends in time and holds bits
+  accepted : runsPast start (length stretch) (length word) ≡ false → hasBadBit stretch ≡ false → spliceVerdict stored start stretch ≡ Done
+  accepted e f =
+      code-passes (faithful .known) (spliceChecks stored start stretch (keptCode stored)) (passes faithful, (sym same-end ∙ e, (f, tt)))
+
+  module _ (z : spliceVerdict stored start stretch ≡ Done) where
+    ready : SpliceReady (keptCode stored) stored start stretch
+    ready = splice-accepted stored start stretch z
+
+    ends-in-time : runsPast start (length stretch) (length word) ≡ false
+    ends-in-time = same-end ∙ le-ltb (nOf (stored .m)) (start + length stretch) (ready .ends)
+
+    fits-in : start + length stretch ≤ length word
+    fits-in = omega (arith, ready .ends, R .long, ap nOf (O .m-is))
+
+    pasted-ready : OpenReady (codeOf m t) (paste word start stretch (length stretch))
+    pasted-ready =
+        record {
+          known = R .known;
+          long = length-paste word start stretch (length stretch) fits-in (omega arith) ∙ R .long;
+          bits = bits-paste start (R .bits) (ready .bits);
+        }
+
+    -- and then the record is the one opened with the stretch pasted in
+    pasted-opened : {after : Kept} → Spliced (keptCode stored) stored start stretch after
+        → Opened (paste word start stretch (length stretch)) (codeOf m t) after
+    pasted-opened {after} S =
+        record {
+          m-is = S .m-is ∙ O .m-is;
+          t-is = S .t-is ∙ O .t-is;
+          bits-are = bits;
+          sums-are = record {
+            long = sym (s .whole .sums);
+            holds = λ i h.
+                s .sums i (omega (arith, S .t-is, O .t-is)) ∙ ap₂ (λ (x : ℕ) (xs : List ℕ). sumOf x (2 * i + 1) xs) (S .m-is ∙ O .m-is) kept;
+            rest = λ i h. S .sums-rest i (omega (arith, O .t-is)) ∙ O .sums-are .rest i h;
+          };
+        }
+      where
+        s : Faithful after
+        s = spliced-faithful faithful ready S
+
+        bits : after .bits ≡ paste word start stretch (length stretch) ++ replicate (1023 - nOf m) 0
+        bits =
+            S .bits-are
+            ∙ ap (λ (xs : List ℕ). paste xs start stretch (length stretch)) (O .bits-are)
+            ∙ paste-part word (replicate (1023 - nOf m) 0) start stretch fits-in
+
+        kept : kept-word after ≡ paste word start stretch (length stretch)
+        kept =
+            ap₂ (λ (x : ℕ) (xs : List ℕ). take (nOf x) xs) (S .m-is ∙ O .m-is) bits
+            ∙ take-at (paste word start stretch (length stretch)) (replicate (1023 - nOf m) 0) (nOf m) (pasted-ready .long)
+
+  -- accepted or refused, the record is the one opened with the bits that result
+  one-splice : {x : Answer} → Splices stored start stretch x
+      → OpenReady (codeOf m t) (spliced word (start, stretch)) × Opened (spliced word (start, stretch)) (codeOf m t) (x .record)
+  one-splice {x} p = pick (runsPast start (length stretch) (length word)) (hasBadBit stretch) refl refl
     where
-      whole : kept-word after ≡ stretch
-      whole =
-          ap₂ (λ (x : ℕ) (xs : List ℕ). take (nOf x) xs) (S .m-is ∙ O .m-is) (whole-bits S)
-          ∙ take-at stretch (replicate (1023 - nOf m) 0) (nOf m) (Q .long)
+      as-it-was : spliceVerdict stored start stretch ≢ Done → OpenReady (codeOf m t) word × Opened word (codeOf m t) (x .record)
+      as-it-was n = (R, subst (Opened word (codeOf m t)) (sym (splice-refused (λ e. n (done-passed (p .promise) e)) p)) O)
 
--- is the record that Open gives for it
-pub whole-splice : {m t : ℕ} {word stretch : List ℕ} {x y z : Answer} → codeVerdict m t (openChecks word) ≡ Done → codeVerdict m t (openChecks stretch) ≡ Done
-    → Opens m t word x → Splices (x .record) 0 stretch y → Opens m t stretch z → y ≡ z
-whole-splice {m} {t} {word} {stretch} a b p q r =
-    let R = open-accepted m t word a in
-    let Q = open-accepted m t stretch b in
-    let O = p .promise .done a .did in
-    let S = q .promise .done (whole-accepted R O Q) in
-    answer-same (S .is-done ∙ sym (r .promise .done b .is-done), opened-one (whole-opened R O Q (S .did)) (r .promise .done b .did))
+      pick : (past bad : Bool) → runsPast start (length stretch) (length word) ≡ past → hasBadBit stretch ≡ bad
+          → OpenReady (codeOf m t) (cond (past || bad) word (paste word start stretch (length stretch)))
+          × Opened (cond (past || bad) word (paste word start stretch (length stretch))) (codeOf m t) (x .record)
+      pick true bad e f = as-it-was (λ z. true≢false (sym e ∙ ends-in-time z))
+      pick false true e f = as-it-was (λ z. true≢false (sym f ∙ not-bad (ready z .bits)))
+      pick false false e f = let z = accepted e f in (pasted-ready z, pasted-opened z (p .promise .done z .did))
+
+-- after any splices
+
+after-opened : {m t : ℕ} {word : List ℕ} {stored after : Kept} (splices : List (ℕ × List ℕ)) → OpenReady (codeOf m t) word
+    → Opened word (codeOf m t) stored → After stored splices after
+    → OpenReady (codeOf m t) (resulting word splices) × Opened (resulting word splices) (codeOf m t) after
+after-opened {m} {t} {word} [] R O e = (R, subst (Opened word (codeOf m t)) e O)
+after-opened (s ∷ splices) R O (x, p, rest) = let (Q, P) = one-splice R O (s .0) (s .1) p in after-opened splices Q P rest
+
+module _ {m t : ℕ} {word : List ℕ} {x : Answer} {stored : Kept} (splices : List (ℕ × List ℕ)) (o : Opens m t word x) (e : x .outcome ≡ Done)
+    (a : After (x .record) splices stored) where
+  result : OpenReady (codeOf m t) (resulting word splices) × Opened (resulting word splices) (codeOf m t) stored
+  result = let z = done-passed (o .promise) e in after-opened splices (open-accepted m t word z) (o .promise .done z .did) a
+
+  -- the record is the one that Open gives for the resulting bits
+  pub kept-as-opened : {y : Answer} → Opens m t (resulting word splices) y → (y .outcome ≡ Done) × (stored ≡ y .record)
+  kept-as-opened q =
+      let (R, O) = result in
+      let d = q .promise .done (code-passes (R .known) (openChecks (resulting word splices) (codeOf m t)) (equal (R .long), (not-bad (R .bits), tt))) in
+      (d .is-done, opened-one O (d .did))
+
+  -- Decode kept answers as Decode does for the resulting bits: answer, word and list
+  pub kept-as-decoded : {lentWord lentList word₁ list₁ word₂ list₂ : List ℕ} {y y′ : Decoded} → DecodesKept stored lentWord lentList y word₁ list₁
+      → Decodes m t (resulting word splices) lentWord lentList y′ word₂ list₂ → (y ≡ y′) × (word₁ ≡ word₂) × (list₁ ≡ list₂)
+  kept-as-decoded {lentWord} {lentList} {word₂ = word₂} {list₂} {y′ = y′} p q =
+      let (R, O) = result in
+      faithful-decodes (opened-faithful R O) lentWord lentList p (rw (opened-word R O, O .m-is, O .t-is) q)
+
+  -- the whole word spliced in is that word opened afresh
+  pub whole-splice : {stretch : List ℕ} {y y′ : Answer} → Splices stored 0 stretch y → Opens m t stretch y′ → y′ .outcome ≡ Done → y ≡ y′
+  whole-splice {stretch} {y} p q f =
+      let (R, O) = result in
+      let b = done-passed (q .promise) f in
+      let Q = open-accepted m t stretch b in
+      let same : length stretch ≡ length (resulting word splices) = Q .long ∙ sym (R .long) in
+      let z = accepted R O 0 stretch (le-ltb (length (resulting word splices)) (0 + length stretch) (omega arith)) (not-bad (Q .bits)) in
+      let S = p .promise .done z in
+      let long = length-paste (resulting word splices) 0 stretch (length stretch) (omega arith) (omega arith) in
+      let whole = copied-whole (resulting word splices) stretch (paste (resulting word splices) 0 stretch (length stretch)) (sym same) long refl in
+      let P = subst (λ (w : List ℕ). Opened w (codeOf m t) (y .record)) whole (pasted-opened R O 0 stretch z (S .did)) in
+      answer-same (S .is-done ∙ sym (q .promise .done b .is-done), opened-one P (q .promise .done b .did))

@@ -12,7 +12,7 @@ use lib.ListN.{length, getD, drop, replicate, length-drop, length-replicate, Lis
 use lib.Seq.{paste, getD-drop}
 use Rattle.sheet.specs.declared.Outcome.{Outcome}
 use Rattle.sheet.specs.declared.Outcome.the-variants.{Done}
-use Rattle.sheet.proofs.VerdictLaws.{Verdict, passed, refused, verdict-cases, always-one}
+use Rattle.sheet.proofs.VerdictLaws.{Verdict, passed, refused, verdict-cases, always-one, done-passed}
 use Rattle.bits.specs.Bits.{runsPast, added}
 use Rattle.bits.proofs.BitLaws.{added-at, added-back, added-self, bits-added, bits-replicate, length-added}
 use Rattle.bits.proofs.Turns.{paste-at, paste-before, paste-after}
@@ -20,24 +20,27 @@ use Rattle.field.specs.Sum.{_⊕_}
 use Rattle.field.specs.Power.{nOf}
 use Rattle.field.proofs.SumLaws.{sum-zero}
 use Rattle.codes.specs.declared.Code.{Code}
-use Rattle.codes.specs.Look.{Known, kOf, codeOf, codeVerdict}
+use Rattle.codes.specs.Look.{kOf, codeOf, codeVerdict}
+use Rattle.codes.specs.Work.{Known}
 use Rattle.codes.specs.Sums.{CodeWord}
 use Rattle.codes.specs.Encoding.{Encoding}
 use Rattle.codes.proofs.LookLaws.{known-listed}
 use Rattle.codes.proofs.CheckLaws.{past, code-one}
 use Rattle.codes.proofs.SumLaws.{sum-added, sum-zeros}
+use Rattle.codec.specs.Encode.{Encodes}
 use Rattle.codec.specs.Edit.{Edits, Editing, editChecks}
 use Rattle.codec.specs.Work.{EditReady}
 use Rattle.codec.proofs.EditLaws.{edit-ready}
+use Rattle.demands.specs.Words.{editedMessage, OnlyStretch}
 use Rattle.demands.proofs.OneOutcome.{encoding-one}
 
 -- an empty stretch passes check 12 exactly if its start is at most the end
 pub empty-ends : (start end : ℕ) → (runsPast start 0 end ≡ false) ↔ (start ≤ end)
 empty-ends start end = (λ e. omega (arith, ltb-false end (start + 0) e), λ h. le-ltb end (start + 0) (omega arith))
 
--- the message of a word, d being n - k, with the stretch in it
-abbrev pub editedMessage : ℕ → List ℕ → ℕ → List ℕ → List ℕ
-editedMessage d word start stretch = paste (drop d word) start stretch (length stretch)
+-- the message of a word with the stretch in it
+abbrev edited : Code → List ℕ → ℕ → List ℕ → List ℕ
+edited c word start stretch = paste (drop (c .n - c .k) word) start stretch (length stretch)
 
 -- an encoding, with its message place counted from the code's own n
 encoding : {c : Code} {message word : List ℕ} → Known c → CodeWord (c .m) (c .t) word
@@ -49,7 +52,7 @@ module _ {c : Code} {start : ℕ} {lent stretch : List ℕ} (R : EditReady c len
   message-long = omega (arith, length-drop (c .n - c .k) lent, R .long, R .known .within)
 
   message-places : {left : List ℕ} → Editing c lent start stretch left → (i : ℕ) → i < c .k
-      → getD left (c .n - c .k + i) 0 ≡ getD (editedMessage (c .n - c .k) lent start stretch) i 0
+      → getD left (c .n - c .k + i) 0 ≡ getD (edited c lent start stretch) i 0
   message-places {left} E i h = pick (decLt i start) (decLt i (start + length stretch))
     where
       within : start ≤ length (drop (c .n - c .k) lent)
@@ -58,23 +61,23 @@ module _ {c : Code} {start : ℕ} {lent stretch : List ℕ} (R : EditReady c len
       old : getD (drop (c .n - c .k) lent) i 0 ≡ getD lent (c .n - c .k + i) 0
       old = getD-drop (c .n - c .k) lent i 0
 
-      pick : Dec (i < start) → Dec (i < start + length stretch) → getD left (c .n - c .k + i) 0 ≡ getD (editedMessage (c .n - c .k) lent start stretch) i 0
+      pick : Dec (i < start) → Dec (i < start + length stretch) → getD left (c .n - c .k + i) 0 ≡ getD (edited c lent start stretch) i 0
       pick (yes l) b = E .below i l ∙ sym (paste-before (drop (c .n - c .k) lent) start stretch i within l ∙ old)
       pick (no l) (yes b) =
           let e : start + (i - start) ≡ i = omega arith in
-          subst (λ (p : ℕ). getD left (c .n - c .k + p) 0 ≡ getD (editedMessage (c .n - c .k) lent start stretch) p 0) e
+          subst (λ (p : ℕ). getD left (c .n - c .k + p) 0 ≡ getD (edited c lent start stretch) p 0) e
           (E .replaced (i - start) (omega arith) ∙ sym (paste-at (drop (c .n - c .k) lent) start stretch (i - start) within (omega arith)))
       pick (no l) (no b) = E .above i (omega arith) h ∙ sym (paste-after (drop (c .n - c .k) lent) start stretch i within (omega arith) ∙ old)
 
   -- the change of the whole word is the code word that carries the change of the message
   change-encodes : {left : List ℕ} → Editing c lent start stretch left
-      → Encoding (c .m) (c .t) (c .k) (added (drop (c .n - c .k) lent) (editedMessage (c .n - c .k) lent start stretch)) (added lent left)
+      → Encoding (c .m) (c .t) (c .k) (added (drop (c .n - c .k) lent) (edited c lent start stretch)) (added lent left)
   change-encodes {left} E =
       encoding (R .known) (E .change)
       (λ i h.
       added-at lent left (c .n - c .k + i) (omega (arith, R .long, R .known .within))
       ∙ ap₂ bitXor (sym (getD-drop (c .n - c .k) lent i 0)) (message-places E i h)
-      ∙ sym (added-at (drop (c .n - c .k) lent) (editedMessage (c .n - c .k) lent start stretch) i (omega (arith, message-long))))
+      ∙ sym (added-at (drop (c .n - c .k) lent) (edited c lent start stretch) i (omega (arith, message-long))))
 
   -- the change leads back to the edited word
   from-change : {left : List ℕ} → Editing c lent start stretch left → added lent (added lent left) ≡ left
@@ -84,7 +87,7 @@ module _ {c : Code} {start : ℕ} {lent stretch : List ℕ} (R : EditReady c len
   editing-one a b = sym (from-change a) ∙ ap (added lent) (encoding-one (known-listed (R .known)) (change-encodes a) (change-encodes b)) ∙ from-change b
 
   editing-encodes : CodeWord (c .m) (c .t) lent → {left : List ℕ} → Editing c lent start stretch left
-      → Encoding (c .m) (c .t) (c .k) (editedMessage (c .n - c .k) lent start stretch) left
+      → Encoding (c .m) (c .t) (c .k) (edited c lent start stretch) left
   editing-encodes C {left} E = encoding (R .known) (subst (CodeWord (c .m) (c .t)) (from-change E) sum) (message-places E)
     where
       sum : CodeWord (c .m) (c .t) (added lent (added lent left))
@@ -149,22 +152,36 @@ edit-one {start = start} {lent} {stretch} p q = code-one (λ c K z a b. always-o
 -- "The change of the whole word is exactly the code word whose message is the change of the message, also when the word was no code word."
 pub edit-changes : {m t start : ℕ} {lent stretch left : List ℕ} {x : Outcome} → codeVerdict m t (editChecks lent start stretch) ≡ Done
     → Edits m t lent start stretch x left
-    → Encoding m t (kOf m t) (added (drop (nOf m - kOf m t) lent) (editedMessage (nOf m - kOf m t) lent start stretch)) (added lent left)
+    → Encoding m t (kOf m t) (added (drop (nOf m - kOf m t) lent) (editedMessage m t lent start stretch)) (added lent left)
 edit-changes {m} {t} {start} {lent} {stretch} z p = change-encodes (accepted m t lent start stretch z) (p .promise .done z .did)
 
 -- a code word edited is the encoding of the edited message
-pub edit-encodes : {m t start : ℕ} {lent stretch left : List ℕ} {x : Outcome} → CodeWord m t lent → codeVerdict m t (editChecks lent start stretch) ≡ Done
-    → Edits m t lent start stretch x left → Encoding m t (kOf m t) (editedMessage (nOf m - kOf m t) lent start stretch) left
-edit-encodes {m} {t} {start} {lent} {stretch} C z p = editing-encodes (accepted m t lent start stretch z) C (p .promise .done z .did)
+pub edit-encodes : {m t start : ℕ} {lent stretch left : List ℕ} {x : Outcome} → CodeWord m t lent → Edits m t lent start stretch x left → x ≡ Done
+    → Encoding m t (kOf m t) (editedMessage m t lent start stretch) left
+edit-encodes {m} {t} {start} {lent} {stretch} C p e =
+    let z = done-passed (p .promise) e in
+    editing-encodes (accepted m t lent start stretch z) C (p .promise .done z .did)
+
+-- and what an accepted Encode of that message leaves in its buffer
+pub edit-as-encoded : {m t start : ℕ} {lent stretch left lent′ left′ : List ℕ} {x y : Outcome} → CodeWord m t lent → Edits m t lent start stretch x left
+    → x ≡ Done → Encodes m t (editedMessage m t lent start stretch) lent′ y left′ → y ≡ Done → left ≡ left′
+edit-as-encoded {m} {t} {start} {lent} {stretch} C p e q f =
+    let K = past m t (editChecks lent start stretch (codeOf m t)) (done-passed (p .promise) e) .known in
+    encoding-one (known-listed K) (edit-encodes C p e) (q .promise .done (done-passed (q .promise) f) .did)
 
 -- only places of the stretch and of the parity change
-pub edit-only : {m t start : ℕ} {lent stretch left : List ℕ} {x : Outcome} → Edits m t lent start stretch x left → (p : ℕ) → nOf m - kOf m t ≤ p
-    → (p < nOf m - kOf m t + start) ⊎ (nOf m - kOf m t + (start + length stretch) ≤ p) → getD left p 0 ≡ getD lent p 0
-edit-only {m} {t} {start} {lent} {stretch} {left} d p h o = pick (verdict-cases (codeVerdict m t (editChecks lent start stretch)))
+pub edit-only : {m t start : ℕ} {lent stretch left : List ℕ} {x : Outcome} → Edits m t lent start stretch x left
+    → OnlyStretch m t lent start (start + length stretch) left
+edit-only {m} {t} {start} {lent} {stretch} {left} d = pick (verdict-cases (codeVerdict m t (editChecks lent start stretch)))
   where
-    pick : Verdict (codeVerdict m t (editChecks lent start stretch)) → getD left p 0 ≡ getD lent p 0
-    pick (passed z) = editing-only (accepted m t lent start stretch z) (d .promise .done z .did) p h o
-    pick (refused r z) = ap (λ (xs : List ℕ). getD xs p 0) (d .promise .refused r z .1)
+    pick : Verdict (codeVerdict m t (editChecks lent start stretch)) → OnlyStretch m t lent start (start + length stretch) left
+    pick (passed z) =
+        let R = accepted m t lent start stretch z in
+        let E = d .promise .done z .did in
+        record { long = E .long ∙ sym (R .long); places = editing-only R E }
+    pick (refused r z) =
+        let e = d .promise .refused r z .1 in
+        record { long = ap length e; places = λ p h o. ap (λ (xs : List ℕ). getD xs p 0) e }
 
 -- an accepted empty stretch changes nothing
 pub edit-nothing : {m t start : ℕ} {lent left : List ℕ} {x : Outcome} → codeVerdict m t (editChecks lent start []) ≡ Done

@@ -104,7 +104,7 @@ says-one p q =
     promise-one (λ z a b. always-one (λ v w. given-same (carried-one (v .reading) (w .reading)) (v .count ∙ sym (w .count))) a b) p q
 
 -- the answer is what any code word within 23 of the frame's word says
-says-any : (frame : List ℕ) {x : Outcome} {given : Given} {word other : List ℕ} → CodeWord 8 23 word → distance (wordOf frame) word ≤ 23
+pub says-any : (frame : List ℕ) {x : Outcome} {given : Given} {word other : List ℕ} → CodeWord 8 23 word → distance (wordOf frame) word ≤ 23
     → ReadsWord word (distance (wordOf frame) word) x given → CodeWord 8 23 other → distance (wordOf frame) other ≤ 23
     → ReadsWord other (distance (wordOf frame) other) x given
 says-any frame {x} {given} D k s C h =

@@ -9,7 +9,7 @@ use lib.ListN.{length, getD, take, replicate}
 use lib.Seq.{ext-getD, paste, paste-zero}
 use Rattle.sheet.specs.declared.Outcome.{Outcome}
 use Rattle.sheet.specs.declared.Outcome.the-variants.{Done}
-use Rattle.sheet.proofs.VerdictLaws.{Verdict, passed, refused, verdict-cases, always-one, search-one}
+use Rattle.sheet.proofs.VerdictLaws.{Verdict, passed, refused, verdict-cases, refused-stays, always-stays, always-one, search-one}
 use Rattle.bits.specs.Bits.{flipped}
 use Rattle.bits.proofs.Turns.{paste-before, paste-after}
 use Rattle.field.specs.Product.{IsField}
@@ -27,6 +27,7 @@ use Rattle.splice.specs.Splice.{Splices, Spliced, spliceChecks, plusChange}
 use Rattle.splice.specs.Work.{SpliceReady}
 use Rattle.splice.proofs.SpliceLaws.{none-added, splice-ready}
 use Rattle.decode_kept.specs.DecodeKept.{DecodesKept, MendsKept}
+use Rattle.demands.specs.Words.{Elsewhere}
 use Rattle.demands.proofs.Near.{decoded-same, left-same}
 
 pub answer-same : {x y : Answer} → (x .outcome ≡ y .outcome) × (x .record ≡ y .record) → x ≡ y
@@ -57,7 +58,7 @@ spliced-one : {c : Code} {stored : Kept} {start : ℕ} {stretch : List ℕ} {x y
 spliced-one {c} {stored} {x = x} {y} p q =
     let b : x .bits ≡ y .bits = p .bits-are ∙ sym (q .bits-are) in
     kept-same (p .m-is ∙ sym (q .m-is)) (p .t-is ∙ sym (q .t-is)) b
-    (rows-same (c .t) (x .sums) (y .sums) (p .sums-long ∙ sym (q .sums-long))
+    (rows-same (c .t) (x .sums) (y .sums) (p .is-whole .sums ∙ sym (q .is-whole .sums))
     (λ i h. p .sums-changed i h ∙ ap (λ (after : List ℕ). plusChange c stored after i) b ∙ sym (q .sums-changed i h))
     (λ i h. p .sums-rest i h ∙ sym (q .sums-rest i h)))
 
@@ -80,25 +81,13 @@ splice-accepted stored start stretch z =
     splice-ready stored start stretch (p .known) (p .rest)
 
 -- a refused splice gives the record back
-pub splice-refused : {stored : Kept} {start : ℕ} {stretch : List ℕ} {x : Answer} → spliceVerdict stored start stretch ≢ Done → Splices stored start stretch x
-    → x .record ≡ stored
-splice-refused {stored} {start} {stretch} {x} n p = pick (verdict-cases (spliceVerdict stored start stretch))
-  where
-    pick : Verdict (spliceVerdict stored start stretch) → x .record ≡ stored
-    pick (passed z) = absurd (n z)
-    pick (refused r z) = p .promise .refused r z .1
+pub splice-refused : {stored : Kept} {start : ℕ} {stretch : List ℕ} {x : Answer} → x .outcome ≢ Done → Splices stored start stretch x → x .record ≡ stored
+splice-refused n p = refused-stays (λ a z. always-stays a z) (p .promise) n
 
--- what a splice may not change
-pub record Elsewhere (stored : Kept) (start end : ℕ) (after : Kept) : Type 0 where
-  pub m-is : after .m ≡ stored .m
-  pub t-is : after .t ≡ stored .t
-  pub places : (p : ℕ) → (p < start) ⊎ (end ≤ p) → getD (after .bits) p 0 ≡ getD (stored .bits) p 0
-  pub sums : (i : ℕ) → stored .t ≤ i → getD (after .sums) i 0 ≡ getD (stored .sums) i 0
-
--- every record that is handed in has room for 1,023 bits
-pub splice-only : {stored : Kept} {start : ℕ} {stretch : List ℕ} {x : Answer} → length (stored .bits) ≡ 1023 → Splices stored start stretch x
+-- nothing else changes
+pub splice-only : {stored : Kept} {start : ℕ} {stretch : List ℕ} {x : Answer} → Splices stored start stretch x
     → Elsewhere stored start (start + length stretch) (x .record)
-splice-only {stored} {start} {stretch} {x} l s = pick (verdict-cases (spliceVerdict stored start stretch))
+splice-only {stored} {start} {stretch} {x} s = pick (verdict-cases (spliceVerdict stored start stretch))
   where
     outside : start ≤ length (stored .bits) → (p : ℕ) → (p < start) ⊎ (start + length stretch ≤ p)
         → getD (paste (stored .bits) start stretch (length stretch)) p 0 ≡ getD (stored .bits) p 0
@@ -109,10 +98,12 @@ splice-only {stored} {start} {stretch} {x} l s = pick (verdict-cases (spliceVerd
     pick (passed z) =
         let R = splice-accepted stored start stretch z in
         let S = s .promise .done z .did in
-        let within : start ≤ length (stored .bits) = omega (arith, R .ends, R .known .small) in
+        let within : start ≤ length (stored .bits) = omega (arith, R .ends, R .known .small, S .was-whole .bits) in
         record {
           m-is = S .m-is;
           t-is = S .t-is;
+          bits-long = S .is-whole .bits ∙ sym (S .was-whole .bits);
+          sums-long = S .is-whole .sums ∙ sym (S .was-whole .sums);
           places = λ p o. ap (λ (xs : List ℕ). getD xs p 0) (S .bits-are) ∙ outside within p o;
           sums = S .sums-rest;
         }
@@ -121,6 +112,8 @@ splice-only {stored} {start} {stretch} {x} l s = pick (verdict-cases (spliceVerd
         record {
           m-is = ap (λ (y : Kept). y .m) e;
           t-is = ap (λ (y : Kept). y .t) e;
+          bits-long = ap (λ (y : Kept). length (y .bits)) e;
+          sums-long = ap (λ (y : Kept). length (y .sums)) e;
           places = λ p o. ap (λ (y : Kept). getD (y .bits) p 0) e;
           sums = λ i h. ap (λ (y : Kept). getD (y .sums) i 0) e;
         }
@@ -129,7 +122,7 @@ splice-only {stored} {start} {stretch} {x} l s = pick (verdict-cases (spliceVerd
 pub splice-nothing : {stored : Kept} {start : ℕ} {x : Answer} → spliceVerdict stored start [] ≡ Done → Splices stored start [] x → x .record ≡ stored
 splice-nothing {stored} {start} {x} z p =
     kept-same (S .m-is) (S .t-is) same
-    (rows-same (stored .t) (x .record .sums) (stored .sums) (S .sums-long)
+    (rows-same (stored .t) (x .record .sums) (stored .sums) (S .is-whole .sums ∙ sym (S .was-whole .sums))
     (λ i h. S .sums-changed i h ∙ ap (λ (after : List ℕ). plusChange (keptCode stored) stored after i) same
     ∙ none-added (stored .m) i (stored .bits) (stored .sums))
     (S .sums-rest))

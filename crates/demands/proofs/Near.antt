@@ -7,23 +7,24 @@ use native.Mathlib.Omega.{arith}
 use lib.ListN.{length, replicate}
 use Rattle.sheet.specs.declared.Outcome.{Outcome}
 use Rattle.sheet.specs.declared.Outcome.the-variants.{Done}
-use Rattle.sheet.specs.Verdict.{finds}
-use Rattle.sheet.proofs.VerdictLaws.{does, search-one}
+use Rattle.sheet.specs.Verdict.{finds, finds-nothing}
+use Rattle.sheet.proofs.VerdictLaws.{Verdict, passed, refused, verdict-cases, not-done, does, search-one}
 use Rattle.bits.specs.Bits.{AreBits, listOf, flipped}
 use Rattle.bits.specs.Differences.{differences, distance, Ascending}
 use Rattle.bits.proofs.Lists.{list-at}
 use Rattle.bits.proofs.BitLaws.{flipped-nil}
-use Rattle.bits.proofs.DistanceLaws.{distance-comm, differences-comm, distance-flipped, differences-flipped, flipped-differences}
+use Rattle.bits.proofs.DistanceLaws.{differences-ascending, distance-comm, differences-comm, distance-flipped, differences-flipped, flipped-differences}
 use Rattle.field.specs.Product.{IsField}
 use Rattle.field.specs.Power.{nOf}
-use Rattle.codes.specs.Look.{codeVerdict}
+use Rattle.codes.specs.Look.{codeOf, codeVerdict}
 use Rattle.codes.specs.Sums.{CodeWord, sumOf}
-use Rattle.codes.proofs.CheckLaws.{code-one}
+use Rattle.codes.proofs.CheckLaws.{past, code-one}
 use Rattle.locate.proofs.FindLaws.{one-set}
 use Rattle.decode.specs.declared.Decoded.{Decoded}
-use Rattle.decode.specs.Decode.{Decodes, Mended, Mends, decodeChecks, leftBy}
+use Rattle.decode.specs.Decode.{Decodes, Mended, Mends, MendsWithin, decodeChecks, leftBy}
 use Rattle.decode.proofs.DecodeLaws.{near-located}
 use Rattle.decode.proofs.DecodeSteps.{decode-ready}
+use Rattle.demands.specs.Words.{Received}
 
 -- two answers, and two that are left, with the same parts
 pub decoded-same : {x y : Decoded} {word list word′ list′ : List ℕ} → (x .outcome ≡ y .outcome) × (leftBy x word list ≡ leftBy y word′ list′)
@@ -107,3 +108,29 @@ word-unchanged {m} {t} {c} {lentWord} {lentList} {word} {list} {x} C z p =
     (subst (λ (r : List ℕ). codeVerdict m t (decodeChecks r lentWord lentList) ≡ Done) (sym (flipped-nil c)) z)
     (subst (λ (r : List ℕ). Decodes m t r lentWord lentList x word list) (sym (flipped-nil c)) p) in
     (f .0, f .1, f .2 ∙ ap (λ (n : ℕ). replicate n 0) (sub-zero t))
+
+-- what an accepted Decode that mends gives
+pub decode-received : {m t : ℕ} {received lentWord lentList word list : List ℕ} {x : Decoded} → Decodes m t received lentWord lentList x word list
+    → x .outcome ≡ Done → Received m t received (x .wrong) word list
+decode-received {m} {t} {received} {lentWord} {lentList} {word} {list} {x} p e =
+    pick (verdict-cases (codeVerdict m t (decodeChecks received lentWord lentList)))
+  where
+    tells : codeVerdict m t (decodeChecks received lentWord lentList) ≡ Done
+        → MendsWithin (codeOf m t) t received lentWord lentList (x .outcome) (leftBy x word list) → Received m t received (x .wrong) word list
+    tells z (finds a M) =
+        let q = past m t (decodeChecks received lentWord lentList (codeOf m t)) z in
+        let R = decode-ready received lentWord lentList (q .known) (q .rest) in
+        let near : distance received word ≤ t = omega (arith, M .counts, M .within) in
+        record {
+          code-word = M .code-word;
+          within = near;
+          only = λ other C d. near-one (q .known .of-m .listed) (R .received-bits) (R .received-long) C (M .code-word) d near;
+          count = sym (M .counts);
+          upward = differences-ascending received word;
+          lists = M .lists;
+        }
+    tells z (finds-nothing a f s) = absurd (not-done (sym a ∙ e))
+
+    pick : Verdict (codeVerdict m t (decodeChecks received lentWord lentList)) → Received m t received (x .wrong) word list
+    pick (passed z) = tells z (p .promise .done z)
+    pick (refused r z) = absurd (not-done (sym (p .promise .refused r z .0) ∙ e))

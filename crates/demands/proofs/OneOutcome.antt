@@ -6,23 +6,25 @@ use native.Mathlib.Decide.{decLt}
 use native.Mathlib.Omega.{arith}
 use lib.ListN.{getD, List·getD-eq-default}
 use Rattle.sheet.specs.declared.Outcome.{Outcome}
-use Rattle.sheet.proofs.VerdictLaws.{always-one}
+use Rattle.sheet.specs.declared.Outcome.the-variants.{Done}
+use Rattle.sheet.proofs.VerdictLaws.{always-one, done-passed}
 use Rattle.field.specs.Power.{nOf}
-use Rattle.codes.specs.Table.{ListedCode}
+use Rattle.codes.specs.Rows.{ListedCode}
 use Rattle.codes.specs.declared.Code.{Code}
-use Rattle.codes.specs.Look.{Known}
+use Rattle.codes.specs.Look.{kOf, codeOf}
+use Rattle.codes.specs.Work.{Known}
 use Rattle.codes.proofs.LookLaws.{known-listed}
-use Rattle.codes.proofs.CheckLaws.{code-one}
+use Rattle.codes.proofs.CheckLaws.{past, code-one}
 use Rattle.codes.proofs.Rows.{row-facts}
 use Rattle.codes.proofs.Unique.{Roots, one-code-word, roots-of-row}
 use Rattle.generator.proofs.GeneratorLaws.{one-generator}
 use Rattle.codec.specs.declared.describing.Described.{Described}
 use Rattle.codec.specs.Describe.{Describes, Description, DescriptionOf}
 use Rattle.codes.specs.Encoding.{Encoding}
-use Rattle.codec.specs.Encode.{Encodes}
+use Rattle.codec.specs.Encode.{Encodes, encodeChecks}
 
 -- the roots that a listed code's generator has
-roots : {m k t : ℕ} → ListedCode m k t → (rs : List ℕ) × Roots m t (nOf m - k) rs
+pub roots : {m k t : ℕ} → ListedCode m k t → (rs : List ℕ) × Roots m t (nOf m - k) rs
 roots c = rw (← (c .is-k), ← (c .is-t)) (roots-of-row (c .of-m))
 
 description-one : {c : Code} {x y : Description} → Known c → DescriptionOf c x → DescriptionOf c y → x ≡ y
@@ -69,3 +71,11 @@ encoding-one {m} {t} {k} {message} {c} {d} L a b =
 pub encode-one : {m t : ℕ} {message lent left left′ : List ℕ} {x y : Outcome} → Encodes m t message lent x left → Encodes m t message lent y left′
     → (x ≡ y) × (left ≡ left′)
 encode-one p q = code-one (λ c K z a b. always-one (encoding-one (known-listed K)) a b) p q
+
+-- an accepted Encode gives the one code word that carries the message
+pub encode-sends : {m t : ℕ} {message lent left : List ℕ} {x : Outcome} → Encodes m t message lent x left → x ≡ Done
+    → Encoding m t (kOf m t) message left × ((c : List ℕ) → Encoding m t (kOf m t) message c → c ≡ left)
+encode-sends {m} {t} {message} {lent} p e =
+    let z = done-passed (p .promise) e in
+    let E = p .promise .done z .did in
+    (E, λ c D. encoding-one (known-listed (past m t (encodeChecks message lent (codeOf m t)) z .known)) D E)

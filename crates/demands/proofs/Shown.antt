@@ -6,16 +6,19 @@ use native.Mathlib.Decide.{decLt}
 use native.Mathlib.Omega.{arith}
 use lib.ListN.{length, getD, take, replicate, length-take, List·getD-eq-default}
 use lib.Seq.{getD-take}
-use Rattle.bits.specs.Bits.{AreBits, productBits}
+use Rattle.bits.specs.Bits.{AreBits}
+use Rattle.bits.specs.Polynomial.{productBits}
 use Rattle.field.specs.Sum.{_⊕_}
 use Rattle.field.specs.Power.{nOf}
 use Rattle.field.proofs.SumLaws.{sum-zero, sum-self}
-use Rattle.codes.specs.Table.{RowOf, ks, ts}
+use Rattle.codes.specs.Table.{ks, ts}
+use Rattle.codes.specs.Rows.{RowOf}
 use Rattle.codes.specs.Sums.{CodeWord}
 use Rattle.codes.proofs.Rows.{row-facts}
 use Rattle.codes.proofs.Unique.{roots-of-row}
 use Rattle.codes.specs.Encoding.{Encoding}
-use Rattle.generator.specs.Generator.{Generator, generatorOf}
+use Rattle.generator.specs.Generator.{Generator}
+use Rattle.generator.specs.Factors.{generatorOf}
 use Rattle.generator.proofs.GeneratorLaws.{generator-is-product}
 use Rattle.generator.proofs.Taps.{delayed-before, delayed-at}
 use Rattle.generator.proofs.Multiple.{multiple}
@@ -26,7 +29,7 @@ module _ {m row : ℕ} (w : RowOf m row) where
   generator-product g G = generator-is-product w g G
 
   -- every code word is a multiple of the generator
-  pub word-multiple : {g c : List ℕ} → Generator m (getD ts row 0) (nOf m - getD ks row 0) g → CodeWord m (getD ts row 0) c
+  word-multiple : {g c : List ℕ} → Generator m (getD ts row 0) (nOf m - getD ks row 0) g → CodeWord m (getD ts row 0) c
       → (q : List ℕ) × AreBits q × ((i : ℕ) → getD c i 0 ≡ getD (productBits q g) i 0)
   word-multiple {g} {c} G C = multiple (w .listed) (roots-of-row w .1) G c (C .bits) (C .sums)
 

@@ -1,1 +1,1 @@
-// What is asked of the operations, as theorems over their promises: they stand in proofs/. There is no code here.
+// What is asked of the operations, as theorems over their promises: they stand in proofs/, their words in specs/. There is no code here.

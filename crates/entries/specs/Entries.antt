@@ -1,4 +1,4 @@
--- What a step leaves in a row of entries, and what a look at it tells.
+-- What a step leaves in a row of entries, and what a look at it tells; no promise rests on it.
 use mathlib.Core.Path.{_≡_}
 use mathlib.Core.Bool.{Bool, true, false}
 use mathlib.Core.List.{List}

@@ -1,6 +1,6 @@
 // The line of a code: m, t, n and k, its generator, and the word of a message.
 
-ghost use Rattle.codes.specs.Look.{Known};
+ghost use Rattle.codes.specs.Work.{Known};
 use crate::room;
 use crate::tally;
 use crate::text::print_bits;

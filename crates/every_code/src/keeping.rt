@@ -1,6 +1,6 @@
 // A sent word edited, damaged, edited again, opened, spliced three times and twice refused, decoded, and decoded with one stored sum changed by hand.
 
-ghost use Rattle.codes.specs.Look.{Known};
+ghost use Rattle.codes.specs.Work.{Known};
 use crate::made_up;
 use crate::room;
 use crate::tally;

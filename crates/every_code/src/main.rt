@@ -1,7 +1,7 @@
 // Every listed code described, encoded, decoded, edited, opened, spliced and decoded from what is kept. The file stdout is what the second program prints.
 
 ghost use Prim.Native.Nat.{_≤_};
-ghost use Rattle.codes.specs.Look.{Known};
+ghost use Rattle.codes.specs.Work.{Known};
 
 mod describing;
 mod keeping;

@@ -2,7 +2,7 @@
 
 ghost use mathlib.Core.Path.{_≡_};
 ghost use lib.ListN.{length};
-ghost use Rattle.codes.specs.Look.{Known};
+ghost use Rattle.codes.specs.Work.{Known};
 use crate::made_up;
 use crate::room;
 use crate::tally;

@@ -2,7 +2,7 @@
 
 ghost use Prim.Native.Nat.{_≤_};
 ghost use lib.ListN.{length};
-ghost use Rattle.codes.specs.Look.{Known};
+ghost use Rattle.codes.specs.Work.{Known};
 use codes::Code;
 use decode::Decoded;
 use sheet::Outcome;

@@ -3,7 +3,7 @@
 ghost use mathlib.Core.Path.{_≡_};
 ghost use Prim.Native.Nat.{_≤_};
 ghost use lib.ListN.{length};
-ghost use Rattle.codes.specs.Look.{Known};
+ghost use Rattle.codes.specs.Work.{Known};
 use crate::keeping;
 use crate::mending;
 use crate::room;

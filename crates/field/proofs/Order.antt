@@ -62,6 +62,10 @@ module _ {m : ℕ} (L : IsField m) where
   pub a-order-least : (i : ℕ) → 0 < i → i < nOf m → power m a i ≢ 1
   a-order-least = orbit-before (shifted m (polynomial m)) (power m a) power-step (nOf m) walked-once
 
+  -- any number of times around
+  pub power-rounds : (e : ℕ) → power m a (nOf m * e) ≡ 1
+  power-rounds e = ap (power m a) (mul-comm (nOf m) e) ∙ power-wrapped L a (nOf m) e a-order
+
   pub every-power : (x : ℕ) → x < 2 ^ m → x ≢ 0 → (i : ℕ) × (i < nOf m) × (power m a i ≡ x)
   every-power x h k = found (List·Memᴰ·cases-cons (covered m (0 ∷ walk m (power m a 1)) walked-all x h))
     where

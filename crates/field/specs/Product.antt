@@ -6,7 +6,7 @@ use lib.ListN.{getD}
 use Rattle.field.specs.Sum.{_⊕_}
 
 infixl 70 _⊗⟨_⟩_
--- the first list of field polynomials, for m = 3 to 10
+-- the field polynomials, for m = 3 to 10
 unfoldable pub polynomials : List ℕ
 polynomials = 11 ∷ 19 ∷ 37 ∷ 67 ∷ 131 ∷ 285 ∷ 529 ∷ 1033 ∷ []
 
@@ -18,7 +18,7 @@ pub record IsField (m : ℕ) : Type 0 where
   pub least : 3 ≤ m
   pub most : m ≤ 10
 
--- Horner's rule over the digits of y, lowest first: x where the digit is 1, and f of the same for the rest of y. The first number bounds the digits left.
+-- Horner's rule over the digits of y, lowest first: x where the digit is 1, and f of the same for the rest of y. The second number bounds the digits left.
 unfoldable pub digits : (ℕ → ℕ) → ℕ → ℕ → ℕ → ℕ
 digits f x zero y = 0
 digits f x (suc left) zero = 0

@@ -1,4 +1,4 @@
--- What the two tables hold for the m in use.
+-- What the two tables hold for the m in use; no promise rests on it.
 use mathlib.Core.Path.{_≡_}
 use mathlib.Core.List.{List}
 use Prim.Native.Nat.{ℕ, _*_, _^_, _≤_, _<_}

@@ -8,15 +8,17 @@ use Rattle.sheet.specs.declared.Outcome.the-variants.{Done}
 use Rattle.sheet.proofs.VerdictLaws.{equal}
 use Rattle.bits.specs.Bits.{AreBits}
 use Rattle.bits.proofs.BitLaws.{not-bad}
-use Rattle.codes.specs.Table.{ListedCode, ks, ts, first, firsts}
-use Rattle.codes.specs.Look.{Known, kOf, codeOf, codeVerdict}
+use Rattle.codes.specs.Table.{ks, ts, first, firsts, listedCodes}
+use Rattle.codes.specs.Rows.{ListedCode}
+use Rattle.codes.specs.Look.{kOf, codeOf, codeVerdict}
+use Rattle.codes.specs.Work.{Known}
 use Rattle.codes.proofs.LookLaws.{listed-k, listed-found, found-known}
 use Rattle.codes.proofs.CheckLaws.{code-passes}
 use Rattle.codec.specs.Encode.{encodeChecks}
 use Rattle.decode.specs.Decode.{decodeChecks}
 
 pub listed : ListedCode 8 99 23
-unfolding ks ts first firsts
+unfolding ks ts listedCodes first firsts
 listed =
     record {
       row = 56;

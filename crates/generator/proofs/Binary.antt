@@ -9,7 +9,7 @@ use lib.ListN.{length, getD, List·getD-eq-default}
 use lib.Pow.{pow-mono, shr-shr}
 use Rattle.bits.specs.Bits.{AreBits}
 use Rattle.bits.proofs.BitLaws.{bits-nil, bits-cons}
-use Rattle.generator.specs.Generator.{binary}
+use Rattle.generator.specs.Factors.{binary}
 
 pub binary-zero : (p : ℕ) → binary zero p ≡ []
 unfolding binary

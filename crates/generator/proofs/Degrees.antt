@@ -1,12 +1,14 @@
--- The degree of a polynomial over bits, and that degrees add up in a product.
-use mathlib.Core.Path.{_≡_, _∙_, refl, ap, ap₂}
+-- The degree of a polynomial over bits: what stands above the top can be cut off, and degrees add up in a product.
+use mathlib.Core.Path.{_≡_, _∙_, refl, sym, ap, ap₂}
 use mathlib.Core.List.{List, [], _∷_}
-use Prim.Native.Nat.{ℕ, zero, suc, _+_, _*_, _<_}
+use Prim.Native.Nat.{ℕ, zero, suc, _+_, _*_, _≤_, _<_}
 use native.Mathlib.Nat.{mul-zero, zero-mul, zero-add, suc-add}
+use native.Mathlib.Decide.{decLt}
 use native.Mathlib.Omega.{arith}
 use lib.Bits.{bitXor}
-use lib.ListN.{length, getD}
-use Rattle.bits.specs.Bits.{productBits}
+use lib.ListN.{length, getD, take, List·getD-eq-default}
+use lib.Seq.{length-take-le, getD-take}
+use Rattle.bits.specs.Polynomial.{productBits}
 use Rattle.bits.proofs.BitLaws.{product-place, product-nil, zeros-at}
 
 pub record HasDegree (d : ℕ) (p : List ℕ) : Type 0 where
@@ -20,7 +22,29 @@ degree-of-one = record { top = refl; above = above }
     above zero h = absurd (omega arith)
     above (suc i) h = refl
 
-product-none : (xs ys : List ℕ) → ((i : ℕ) → getD xs i 0 ≡ 0) → (i : ℕ) → getD (productBits xs ys) i 0 ≡ 0
+-- a list with something at place d reaches beyond it
+pub reaches : (p : List ℕ) (d : ℕ) → getD p d 0 ≡ 1 → d + 1 ≤ length p
+reaches p d e = pick (decLt d (length p))
+  where
+    pick : Dec (d < length p) → d + 1 ≤ length p
+    pick (yes h) = omega arith
+    pick (no n) =
+        let z : getD p d 0 ≡ 0 = List·getD-eq-default p 0 {n = d} (omega arith) in
+        absurd (omega arith)
+
+-- a polynomial without the zeros above its top
+module _ {d : ℕ} {p : List ℕ} (D : HasDegree d p) where
+  pub cut-long : length (take (d + 1) p) ≡ d + 1
+  cut-long = length-take-le (d + 1) p (reaches p d (D .top))
+
+  pub cut-at : (i : ℕ) → getD (take (d + 1) p) i 0 ≡ getD p i 0
+  cut-at i = pick (decLt i (d + 1))
+    where
+      pick : Dec (i < d + 1) → getD (take (d + 1) p) i 0 ≡ getD p i 0
+      pick (yes h) = getD-take (d + 1) p i 0 h
+      pick (no h) = List·getD-eq-default (take (d + 1) p) 0 {n = i} (omega (arith, cut-long)) ∙ sym (D .above i (omega arith))
+
+pub product-none : (xs ys : List ℕ) → ((i : ℕ) → getD xs i 0 ≡ 0) → (i : ℕ) → getD (productBits xs ys) i 0 ≡ 0
 product-none [] ys h i = rw (product-nil ys) (zeros-at (length ys) i)
 product-none (x ∷ xs) ys h zero = product-place x xs ys zero ∙ ap (λ z. bitXor 0 (z * getD ys 0 0)) (h 0) ∙ ap (bitXor 0) (zero-mul (getD ys 0 0))
 product-none (x ∷ xs) ys h (suc i) =
@@ -41,7 +65,7 @@ product-above (suc d) e (x ∷ xs) ys h k (suc i) l =
     ∙ ap₂ (λ y z. bitXor y (x * z)) (product-above d e xs ys (λ j u. h (suc j) (omega arith)) k i (omega arith)) (k (suc i) (omega arith))
     ∙ ap (bitXor 0) (mul-zero x)
 
-zero-before : (xs : List ℕ) → ((i : ℕ) → getD xs i 0 ≡ 0) → (i : ℕ) → getD (0 ∷ xs) i 0 ≡ 0
+pub zero-before : (xs : List ℕ) → ((i : ℕ) → getD xs i 0 ≡ 0) → (i : ℕ) → getD (0 ∷ xs) i 0 ≡ 0
 zero-before xs h zero = refl
 zero-before xs h (suc i) = h i
 

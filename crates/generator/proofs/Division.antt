@@ -6,7 +6,8 @@ use native.Mathlib.Decide.{ℕ-discrete}
 use native.Mathlib.Omega.{arith}
 use lib.Bits.{bitXor}
 use lib.ListN.{length, getD}
-use Rattle.bits.specs.Bits.{AreBits, addedAt}
+use Rattle.bits.specs.Bits.{AreBits}
+use Rattle.bits.specs.Work.{addedAt}
 use Rattle.bits.proofs.BitLaws.{bits-addedAt, addedAt-at, addedAt-after}
 use Rattle.field.specs.Sum.{_⊕_}
 use Rattle.field.specs.Product.{IsField, _⊗⟨_⟩_}

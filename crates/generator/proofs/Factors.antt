@@ -7,12 +7,13 @@ use native.Mathlib.Decide.{decLe, ℕ-discrete}
 use native.Mathlib.Omega.{arith}
 use lib.ListN.{getD}
 use Rattle.field.specs.Power.{nOf}
-use Rattle.codes.specs.Table.{ks, ts, RowOf, before-k, before-t}
+use Rattle.codes.specs.Table.{ts}
+use Rattle.codes.specs.Rows.{RowOf, before-t}
 use Rattle.codes.specs.Sums.{sumOf}
 use Rattle.codes.proofs.Lead.{doublings-add, lead-same}
 use Rattle.codes.proofs.Rows.{InClass, RowBefore, at-first, after, row-before, row-facts, rows-ascend, before-free, smaller-class}
-use Rattle.generator.specs.Generator.{Minimal, minimalOf}
-use Rattle.generator.proofs.Minimal.{minimal, minimal-of-class, no-other-root}
+use Rattle.generator.specs.Minimal.{Minimal}
+use Rattle.generator.proofs.Minimal.{degreeOf, rowMinimal, minimal, minimal-of-class, no-other-root}
 
 -- i is in the class that row q adds, q at most r
 pub record ClassRow (m r i : ℕ) : Type 0 where
@@ -51,7 +52,7 @@ class-row {m} {r} w i l h = find-row m (r + i) r i (omega arith) w l h
 
 -- so the minimal polynomial of a^i is one of the factors
 pub factor-of-power : {m r : ℕ} → RowOf m r → (i : ℕ) → 1 ≤ i → i ≤ 2 * getD ts r 0
-    → (q : ℕ) × RowOf m q × (q ≤ r) × Minimal m i (before-k m q - getD ks q 0) (minimalOf q)
+    → (q : ℕ) × RowOf m q × (q ≤ r) × Minimal m i (degreeOf m q) (rowMinimal m q)
 factor-of-power {m} {r} w i l h =
     let C = class-row w i l h in
     (C .row, C .of-m, C .most, minimal-of-class (C .of-m) i (C .in-class))
@@ -69,7 +70,7 @@ before-ascends {m} {q} {r} v w h = pick (row-before w)
 
 -- and every factor is the minimal polynomial of such a power, an odd one
 pub power-of-factor : {m q r : ℕ} → RowOf m q → RowOf m r → q ≤ r
-    → (i : ℕ) × (i % 2 ≡ 1) × (i ≤ 2 * getD ts r 0 - 1) × Minimal m i (before-k m q - getD ks q 0) (minimalOf q)
+    → (i : ℕ) × (i % 2 ≡ 1) × (i ≤ 2 * getD ts r 0 - 1) × Minimal m i (degreeOf m q) (rowMinimal m q)
 power-of-factor {m} {q} {r} v w h = (2 * before-t m q + 1, omega arith, pick (ℕ-discrete q r), minimal v)
   where
     pick : Dec (q ≡ r) → 2 * before-t m q + 1 ≤ 2 * getD ts r 0 - 1
@@ -77,7 +78,7 @@ power-of-factor {m} {q} {r} v w h = (2 * before-t m q + 1, omega arith, pick (�
     pick (no e) = omega (arith, row-facts v, rows-ascend m q r v w (omega arith))
 
 -- no two rows of m have the same one
-pub factors-differ : {m q r : ℕ} → RowOf m q → RowOf m r → q < r → minimalOf q ≢ minimalOf r
+pub factors-differ : {m q r : ℕ} → RowOf m q → RowOf m r → q < r → rowMinimal m q ≢ rowMinimal m r
 factors-differ {m} {q} {r} v w h e =
     no-other-root v (2 * before-t m r + 1) (omega (arith, row-facts w)) out (ap (sumOf m (2 * before-t m r + 1)) e ∙ minimal w .root)
   where

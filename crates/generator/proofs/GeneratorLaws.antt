@@ -2,23 +2,25 @@
 use mathlib.Core.Path.{_≡_, _∙_, refl, sym, ap}
 use mathlib.Core.List.{List, [], _∷_}
 use Prim.Native.Nat.{ℕ, zero, suc, _+_, _-_, _*_, _≤_, _<_}
-use native.Mathlib.Decide.{decLe, decLt, ℕ-discrete}
+use native.Mathlib.Decide.{decLe, ℕ-discrete}
 use native.Mathlib.Omega.{arith}
-use lib.ListN.{length, getD, take, List·getD-eq-default}
-use lib.Seq.{length-take-le, getD-take}
-use Rattle.bits.specs.Bits.{AreBits, productBits}
+use lib.ListN.{getD, take, List·getD-eq-default}
+use Rattle.bits.specs.Bits.{AreBits}
+use Rattle.bits.specs.Polynomial.{productBits}
 use Rattle.bits.proofs.BitLaws.{bits-take, bits-ones, bits-product}
 use Rattle.field.specs.Product.{IsField, _⊗⟨_⟩_}
 use Rattle.field.specs.Power.{nOf}
 use Rattle.field.proofs.ProductLaws.{zero-product, product-zero}
-use Rattle.codes.specs.Table.{ks, ts, first, RowOf, before-k, before-t}
+use Rattle.codes.specs.Table.{ks, ts, first}
+use Rattle.codes.specs.Rows.{RowOf, before-k, before-t}
 use Rattle.codes.specs.Sums.{sumOf}
 use Rattle.codes.proofs.Rows.{RowBefore, at-first, after, row-before, row-facts, smaller-class}
 use Rattle.codes.proofs.SumLaws.{sum-same, sum-class}
 use Rattle.codes.proofs.Unique.{Roots, same-words, roots-of-row}
-use Rattle.generator.specs.Generator.{Generator, minimalOf, productOf, generatorOf}
+use Rattle.generator.specs.Generator.{Generator}
+use Rattle.generator.specs.Factors.{minimalOf, productOf, generatorOf}
 use Rattle.generator.proofs.Multiple.{sum-product}
-use Rattle.generator.proofs.Degrees.{HasDegree, degree-of-one, product-degree}
+use Rattle.generator.proofs.Degrees.{HasDegree, degree-of-one, cut-long, cut-at, product-degree}
 use Rattle.generator.proofs.Minimals.{minimal-bits, minimal-root, minimal-degree}
 
 -- the product for the row (k, t)
@@ -114,47 +116,22 @@ module _ {m : ℕ} (L : IsField m) {t d : ℕ} {rs : List ℕ} (R : Roots m t d 
           pick (no e) = past g G i (omega arith) ∙ sym (past h H i (omega arith))
 
 module _ {m r : ℕ} (w : RowOf m r) where
-  pub generator-bits : AreBits (generatorOf m r)
-  generator-bits = generated w .bits
-
   pub generator-top : getD (generatorOf m r) (nOf m - getD ks r 0) 0 ≡ 1
   generator-top = generated w .degree .top
 
-  pub generator-above : (i : ℕ) → nOf m - getD ks r 0 < i → getD (generatorOf m r) i 0 ≡ 0
-  generator-above = generated w .degree .above
-
-  pub generator-vanishes : (j : ℕ) → 1 ≤ j → j ≤ 2 * getD ts r 0 → sumOf m j (generatorOf m r) ≡ 0
-  generator-vanishes = generated w .sums
-
-  generator-long : nOf m - getD ks r 0 + 1 ≤ length (generatorOf m r)
-  generator-long = pick (decLt (nOf m - getD ks r 0) (length (generatorOf m r)))
-    where
-      pick : Dec (nOf m - getD ks r 0 < length (generatorOf m r)) → nOf m - getD ks r 0 + 1 ≤ length (generatorOf m r)
-      pick (yes h) = omega arith
-      pick (no h) = absurd (omega (arith, generator-top, List·getD-eq-default (generatorOf m r) 0 {n = nOf m - getD ks r 0} (omega arith)))
-
-  -- the product without the zeros behind its top
-  abbrev cut : List ℕ
-  cut = take (nOf m - getD ks r 0 + 1) (generatorOf m r)
-
-  cut-long : length cut ≡ nOf m - getD ks r 0 + 1
-  cut-long = length-take-le (nOf m - getD ks r 0 + 1) (generatorOf m r) generator-long
-
-  cut-at : (i : ℕ) → getD cut i 0 ≡ getD (generatorOf m r) i 0
-  cut-at i = pick (decLt i (nOf m - getD ks r 0 + 1))
-    where
-      pick : Dec (i < nOf m - getD ks r 0 + 1) → getD cut i 0 ≡ getD (generatorOf m r) i 0
-      pick (yes h) = getD-take (nOf m - getD ks r 0 + 1) (generatorOf m r) i 0 h
-      pick (no h) = List·getD-eq-default cut 0 (rw cut-long (omega arith)) ∙ sym (generator-above i (omega arith))
-
   pub generator-exists : Generator m (getD ts r 0) (nOf m - getD ks r 0) (take (nOf m - getD ks r 0 + 1) (generatorOf m r))
-  generator-exists = record {
-    long = cut-long;
-    bits = bits-take (nOf m - getD ks r 0 + 1) generator-bits;
-    top = cut-at (nOf m - getD ks r 0) ∙ generator-top;
-    sums = λ j l h. sum-same m j cut (generatorOf m r) cut-at ∙ generator-vanishes j l h;
-  }
+  generator-exists =
+      let G = generated w in
+      record {
+        long = cut-long (G .degree);
+        bits = bits-take (nOf m - getD ks r 0 + 1) (G .bits);
+        top = cut-at (G .degree) (nOf m - getD ks r 0) ∙ G .degree .top;
+        sums = λ j l h. sum-same m j (take (nOf m - getD ks r 0 + 1) (generatorOf m r)) (generatorOf m r) (cut-at (G .degree)) ∙ G .sums j l h;
+      }
 
   -- the one generator of the row is the product
   pub generator-is-product : (g : List ℕ) → Generator m (getD ts r 0) (nOf m - getD ks r 0) g → (i : ℕ) → getD g i 0 ≡ getD (generatorOf m r) i 0
-  generator-is-product g G i = ap (λ xs. getD xs i 0) (one-generator (w .listed) (roots-of-row w .1) g cut G generator-exists) ∙ cut-at i
+  generator-is-product g G i =
+      ap (λ (xs : List ℕ). getD xs i 0)
+      (one-generator (w .listed) (roots-of-row w .1) g (take (nOf m - getD ks r 0 + 1) (generatorOf m r)) G generator-exists)
+      ∙ cut-at (generated w .degree) i

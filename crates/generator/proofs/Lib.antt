@@ -2,6 +2,8 @@ pub mod ProductPlaces
 pub mod Multiple
 pub mod Binary
 pub mod Degrees
+pub mod Divisors
+pub mod MinimalLaws
 pub mod Minimals
 pub mod Minimal
 pub mod GeneratorLaws

@@ -5,21 +5,33 @@ use mathlib.Core.List.{List, _∷_}
 use Prim.Native.Nat.{ℕ, zero, suc, _+_, _-_, _*_, _%_, _^_, _≤_, _<_}
 use native.Mathlib.Nat.{mod-eq-of-lt}
 use native.Mathlib.Omega.{arith}
-use lib.ListN.{getD}
+use lib.ListN.{getD, take}
 use Rattle.bits.specs.Bits.{AreBits}
+use Rattle.bits.proofs.BitLaws.{bits-take}
 use Rattle.field.specs.Power.{nOf}
-use Rattle.codes.specs.Table.{ks, RowOf, before-k, before-t}
+use Rattle.codes.specs.Table.{ks}
+use Rattle.codes.specs.Rows.{RowOf, before-k, before-t}
 use Rattle.codes.specs.Sums.{sumOf}
 use Rattle.codes.proofs.Count.{Members, members, members-distinct}
 use Rattle.codes.proofs.Lead.{back}
 use Rattle.codes.proofs.Rows.{InClass, class-count, row-facts}
-use Rattle.codes.proofs.SumLaws.{sum-class}
+use Rattle.codes.proofs.SumLaws.{sum-same, sum-class}
 use Rattle.codes.proofs.Unique.{zero-by-roots}
-use Rattle.generator.specs.Generator.{Minimal, minimalOf}
+use Rattle.generator.specs.Minimal.{Minimal}
+use Rattle.generator.specs.Factors.{minimalOf}
+use Rattle.generator.proofs.Degrees.{cut-long, cut-at}
+use Rattle.generator.proofs.MinimalLaws.{minimal-above}
 use Rattle.generator.proofs.Minimals.{minimal-bits, minimal-root, minimal-degree}
 
+-- the degree of row r's polynomial, and the polynomial without the zeros above its top
+abbrev pub degreeOf : ℕ → ℕ → ℕ
+degreeOf m r = before-k m r - getD ks r 0
+
+abbrev pub rowMinimal : ℕ → ℕ → List ℕ
+rowMinimal m r = take (degreeOf m r + 1) (minimalOf r)
+
 module _ {m r : ℕ} (w : RowOf m r) where
-  roots : Members (InClass (nOf m) (2 * before-t m r + 1)) (nOf m) (before-k m r - getD ks r 0)
+  roots : Members (InClass (nOf m) (2 * before-t m r + 1)) (nOf m) (degreeOf m r)
   roots = members (class-count w)
 
   -- a root leads to the roots of its class
@@ -27,24 +39,30 @@ module _ {m r : ℕ} (w : RowOf m r) where
   class-sum q b h x (e, f) = rw (← f) (sum-class (w .listed) (2 * before-t m r + 1) e q b h)
 
   -- no polynomial of a smaller degree but 0 has the root
-  minimal-least : (q : List ℕ) → AreBits q → ((j : ℕ) → before-k m r - getD ks r 0 ≤ j → getD q j 0 ≡ 0) → sumOf m (2 * before-t m r + 1) q ≡ 0
+  minimal-least : (q : List ℕ) → AreBits q → ((j : ℕ) → degreeOf m r ≤ j → getD q j 0 ≡ 0) → sumOf m (2 * before-t m r + 1) q ≡ 0
       → (j : ℕ) → getD q j 0 ≡ 0
   minimal-least q b z h =
-      zero-by-roots (w .listed) (before-k m r - getD ks r 0) (roots .list) (roots .long) (members-distinct roots) (roots .below) q b z
+      zero-by-roots (w .listed) (degreeOf m r) (roots .list) (roots .long) (members-distinct roots) (roots .below) q b z
       (λ i l. class-sum q b h (getD (roots .list) i 0) (roots .have i l))
 
-  pub minimal : Minimal m (2 * before-t m r + 1) (before-k m r - getD ks r 0) (minimalOf r)
+  pub minimal : Minimal m (2 * before-t m r + 1) (degreeOf m r) (rowMinimal m r)
   minimal =
       let D = minimal-degree w in
-      record { bits = minimal-bits r; top = D .top; above = D .above; root = minimal-root w; least = minimal-least }
+      record {
+        long = cut-long D;
+        bits = bits-take (degreeOf m r + 1) (minimal-bits r);
+        top = cut-at D (degreeOf m r) ∙ D .top;
+        root = sum-same m (2 * before-t m r + 1) (rowMinimal m r) (minimalOf r) (cut-at D) ∙ minimal-root w;
+        least = minimal-least;
+      }
 
   -- and of every power of the class
-  pub minimal-of-class : (x : ℕ) → InClass (nOf m) (2 * before-t m r + 1) x → Minimal m x (before-k m r - getD ks r 0) (minimalOf r)
+  pub minimal-of-class : (x : ℕ) → InClass (nOf m) (2 * before-t m r + 1) x → Minimal m x (degreeOf m r) (rowMinimal m r)
   minimal-of-class x (e, f) = record {
+    long = minimal .long;
     bits = minimal .bits;
     top = minimal .top;
-    above = minimal .above;
-    root = class-sum (minimalOf r) (minimal .bits) (minimal .root) x (e, f);
+    root = class-sum (rowMinimal m r) (minimal .bits) (minimal .root) x (e, f);
     least = λ q b z h. minimal .least q b z (rw (← returns) (sum-class (w .listed) x (e * (m - 1)) q b h));
   }
     where
@@ -52,14 +70,14 @@ module _ {m r : ℕ} (w : RowOf m r) where
       returns = back m (2 * before-t m r + 1) e x (omega arith) f ∙ mod-eq-of-lt (omega (arith, row-facts w))
 
   -- but of no other power: it would have more roots than its degree
-  pub no-other-root : (x : ℕ) → x < nOf m → (InClass (nOf m) (2 * before-t m r + 1) x → ⊥) → sumOf m x (minimalOf r) ≢ 0
+  pub no-other-root : (x : ℕ) → x < nOf m → (InClass (nOf m) (2 * before-t m r + 1) x → ⊥) → sumOf m x (rowMinimal m r) ≢ 0
   no-other-root x l out h =
-      let zero-top = zero-by-roots (w .listed) (suc d) (x ∷ roots .list) (ap suc (roots .long)) differ below (minimalOf r)
-      (minimal .bits) (minimal .above) vanish d in
+      let zero-top = zero-by-roots (w .listed) (suc d) (x ∷ roots .list) (ap suc (roots .long)) differ below (rowMinimal m r)
+      (minimal .bits) (minimal-above minimal) vanish d in
       omega (arith, minimal .top)
     where
       d : ℕ
-      d = before-k m r - getD ks r 0
+      d = degreeOf m r
 
       differ : (i j : ℕ) → i < j → j < suc d → getD (x ∷ roots .list) i 0 ≢ getD (x ∷ roots .list) j 0
       differ i zero u v e = absurd (omega arith)
@@ -70,6 +88,6 @@ module _ {m r : ℕ} (w : RowOf m r) where
       below zero u = l
       below (suc i) u = roots .below i (omega arith)
 
-      vanish : (i : ℕ) → i < suc d → sumOf m (getD (x ∷ roots .list) i 0) (minimalOf r) ≡ 0
+      vanish : (i : ℕ) → i < suc d → sumOf m (getD (x ∷ roots .list) i 0) (rowMinimal m r) ≡ 0
       vanish zero u = h
-      vanish (suc i) u = class-sum (minimalOf r) (minimal .bits) (minimal .root) (getD (roots .list) i 0) (roots .have i (omega arith))
+      vanish (suc i) u = class-sum (rowMinimal m r) (minimal .bits) (minimal .root) (getD (roots .list) i 0) (roots .have i (omega arith))

@@ -19,12 +19,13 @@ use Rattle.field.proofs.ProductLaws.{product-horner, remainder-below}
 use Rattle.field.proofs.PowerLaws.{power-bound, power-one}
 use Rattle.field.proofs.Order.{power-step, eight-bound}
 use Rattle.field.proofs.Tests.{both, both-left, both-right, at-listed, all, All, done, also, all-passed}
-use Rattle.codes.specs.Table.{ks, ts, firsts, first, RowOf, before-k, before-t}
+use Rattle.codes.specs.Table.{ks, ts, firsts, first, listedCodes}
+use Rattle.codes.specs.Rows.{RowOf, before-k, before-t}
 use Rattle.codes.specs.Sums.{sumOf}
 use Rattle.codes.proofs.Rows.{row-facts}
 use Rattle.codes.proofs.SumLaws.{sumOf-nil, sum-cons}
 use Rattle.generator.specs.Minimals.{minimals}
-use Rattle.generator.specs.Generator.{binary, minimalOf}
+use Rattle.generator.specs.Factors.{binary, minimalOf}
 use Rattle.generator.proofs.Degrees.{HasDegree}
 use Rattle.generator.proofs.Binary.{binary-zero, binary-suc, binary-bits, binary-top, binary-above}
 
@@ -56,7 +57,7 @@ walkOf m = walk m (first (suc m) - first m) (nOf m) 0 2 (drop (first m) ks) (dro
 
 -- the one test of the whole table
 walked : {m : ℕ} → IsField m → T (walkOf m)
-unfolding ks ts minimals firsts first polynomials polynomial digits horner shifted _⊕_
+unfolding ks ts listedCodes minimals firsts first polynomials polynomial digits horner shifted _⊕_
 walked = at-listed walkOf tt
 
 -- what the walk tells of the minimal polynomial p of a row

@@ -1,12 +1,13 @@
 -- The sums of a product of bit polynomials, long division over bits, and that every code word is a multiple of the generator.
-use mathlib.Core.Path.{_≡_, _∙_, sym, ap, ap₂}
+use mathlib.Core.Path.{_≡_, _∙_, refl, sym, ap, ap₂}
 use mathlib.Core.List.{List, [], _∷_, map}
 use Prim.Native.Nat.{ℕ, zero, suc, _+_, _*_, _≤_}
 use native.Mathlib.Nat.{zero-mul, one-mul, mul-one, mul-zero}
 use native.Mathlib.Decide.{ℕ-discrete}
 use native.Mathlib.Omega.{arith}
 use lib.ListN.{length, getD, replicate, length-map, length-replicate, List·getD-eq-default}
-use Rattle.bits.specs.Bits.{AreBits, added, productBits}
+use Rattle.bits.specs.Bits.{AreBits, added}
+use Rattle.bits.specs.Polynomial.{productBits}
 use Rattle.bits.proofs.BitLaws.{times-at, bit-cases, bits-head, bits-tail, bits-nil, bits-cons, bits-replicate, bits-added}
 use Rattle.bits.proofs.BitLaws.{bits-times, bits-product, length-added, product-nil, product-cons, length-product, zeros-at}
 use Rattle.field.specs.Sum.{_⊕_}
@@ -45,6 +46,12 @@ module _ {m : ℕ} (L : IsField m) where
       (sum-times j x ys (bits-head b) c)
       ∙ product-shape x (power m a j) (sumOf m j xs) (sumOf m j ys)
       ∙ sym (ap (λ z. z ⊗⟨ m ⟩ sumOf m j ys) (sum-cons L j x xs b))
+
+-- a multiple has the roots of what it is a multiple of
+pub multiple-root : {m : ℕ} → IsField m → (j : ℕ) {g q : List ℕ} (c : List ℕ) → AreBits g → AreBits q
+    → ((i : ℕ) → getD c i 0 ≡ getD (productBits q g) i 0) → sumOf m j g ≡ 0 → sumOf m j c ≡ 0
+multiple-root {m} L j {g} {q} c b e w z =
+    sum-same m j c (productBits q g) w ∙ sum-product L j q g e b ∙ ap (λ (y : ℕ). sumOf m j q ⊗⟨ m ⟩ y) z ∙ product-zero m (sumOf m j q)
 
 -- c divided by g of degree d: c is q times g and r, and r is 0 from place d on
 pub record Divided (d : ℕ) (g c : List ℕ) : Type 0 where
@@ -120,23 +127,24 @@ module _ (d : ℕ) (g : List ℕ) (long : length g ≡ d + 1) (bits : AreBits g)
   divided [] b = divided-nil
   divided (x ∷ c) b = divided-cons x c (bits-head b) (divided c (bits-tail b))
 
+-- what is left of a division has the roots that both have
+pub left-root : {m : ℕ} → IsField m → (j : ℕ) {d : ℕ} {g c : List ℕ} → AreBits g → (D : Divided d g c) → sumOf m j g ≡ 0 → sumOf m j c ≡ 0
+    → sumOf m j (D .r) ≡ 0
+left-root {m} L j {d} {g} {c} b D z h =
+    sym (zero-sum (sumOf m j (D .r)))
+    ∙ ap (λ (y : ℕ). y ⊕ sumOf m j (D .r)) (sym (multiple-root L j (productBits (D .q) g) b (D .q-bits) (λ i. refl) z))
+    ∙ sym (sum-linear L j c (productBits (D .q) g) (D .r) (bits-product (D .q-bits) b) (D .r-bits) (D .whole))
+    ∙ h
+
+-- and where nothing is left it is a multiple
+pub none-left : {d : ℕ} {g c : List ℕ} (D : Divided d g c) → ((i : ℕ) → getD (D .r) i 0 ≡ 0)
+    → (q : List ℕ) × AreBits q × ((i : ℕ) → getD c i 0 ≡ getD (productBits q g) i 0)
+none-left {g = g} D left =
+    (D .q, D .q-bits, λ i. D .whole i ∙ ap (λ (y : ℕ). getD (productBits (D .q) g) i 0 ⊕ y) (left i) ∙ sum-zero (getD (productBits (D .q) g) i 0))
+
 -- every word with the sums of a code word is a multiple of the generator
 pub multiple : {m : ℕ} (L : IsField m) {t d : ℕ} {rs : List ℕ} → Roots m t d rs → {g : List ℕ} → Generator m t d g → (c : List ℕ) → AreBits c
     → ((j : ℕ) → 1 ≤ j → j ≤ 2 * t → sumOf m j c ≡ 0) → (q : List ℕ) × AreBits q × ((i : ℕ) → getD c i 0 ≡ getD (productBits q g) i 0)
-multiple {m} L {t} {d} R {g} G c b h = (D .q, D .q-bits, λ i. D .whole i ∙ ap (λ z. getD (productBits (D .q) g) i 0 ⊕ z) (left i) ∙ sum-zero _)
-  where
-    D : Divided d g c
-    D = divided d g (G .long) (G .bits) (G .top) c b
-
-    product-sum : (j : ℕ) → 1 ≤ j → j ≤ 2 * t → sumOf m j (productBits (D .q) g) ≡ 0
-    product-sum j l u = sum-product L j (D .q) g (D .q-bits) (G .bits) ∙ ap (λ z. sumOf m j (D .q) ⊗⟨ m ⟩ z) (G .sums j l u) ∙ product-zero m _
-
-    left-sum : (j : ℕ) → 1 ≤ j → j ≤ 2 * t → sumOf m j (D .r) ≡ 0
-    left-sum j l u =
-        sym (zero-sum _)
-        ∙ ap (λ z. z ⊕ sumOf m j (D .r)) (sym (product-sum j l u))
-        ∙ sym (sum-linear L j c (productBits (D .q) g) (D .r) (bits-product (D .q-bits) (G .bits)) (D .r-bits) (D .whole))
-        ∙ h j l u
-
-    left : (i : ℕ) → getD (D .r) i 0 ≡ 0
-    left = only-zero L R (D .r) (D .r-bits) (D .r-zero) left-sum
+multiple L {d = d} R {g} G c b h =
+    let D = divided d g (G .long) (G .bits) (G .top) c b in
+    none-left D (only-zero L R (D .r) (D .r-bits) (D .r-zero) (λ j l u. left-root L j (G .bits) D (G .sums j l u) (h j l u)))

@@ -5,7 +5,7 @@ use Prim.Native.Nat.{ℕ, zero, suc, _*_, _≤_}
 use native.Mathlib.Nat.{mul-zero}
 use native.Mathlib.Omega.{arith}
 use lib.ListN.{length, getD, replicate}
-use Rattle.bits.specs.Bits.{productBits}
+use Rattle.bits.specs.Polynomial.{productBits}
 use Rattle.bits.proofs.BitLaws.{product-nil, zeros-at}
 use Rattle.bits.proofs.BitLaws as BitLaws
 use Rattle.field.specs.Sum.{_⊕_}

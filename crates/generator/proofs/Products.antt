@@ -4,16 +4,18 @@ use mathlib.Core.List.{List}
 use Prim.Native.Nat.{ℕ, zero, suc, _+_, _-_, _≤_, _<_}
 use native.Mathlib.Nat.{add-sub-of-le}
 use native.Mathlib.Numerals.{add-one}
-use native.Mathlib.Decide.{decLt}
 use native.Mathlib.Omega.{arith}
-use lib.ListN.{length, getD, set, take, replicate, length-set, length-replicate, List·getD-eq-default}
+use lib.ListN.{length, getD, set, take, replicate, length-set, length-replicate}
 use lib.Seq.{getD-set-same, getD-set-other, getD-take, length-take-le, ext-getD}
-use Rattle.bits.specs.Bits.{productBits}
+use Rattle.bits.specs.Polynomial.{productBits}
 use Rattle.bits.proofs.BitLaws.{bits-replicate, bits-set, zeros-at}
-use Rattle.codes.specs.Table.{ks, ts, first, RowOf}
+use Rattle.codes.specs.Table.{ks, ts, first}
+use Rattle.codes.specs.Rows.{RowOf}
 use Rattle.generator.specs.Minimals.{minimals}
-use Rattle.generator.specs.Generator.{Generator, binary, minimalOf, productOf, generatorOf}
+use Rattle.generator.specs.Generator.{Generator}
+use Rattle.generator.specs.Factors.{binary, minimalOf, productOf, generatorOf}
 use Rattle.generator.specs.Work.{Cut, Multiplied}
+use Rattle.generator.proofs.Degrees.{reaches}
 use Rattle.generator.proofs.GeneratorLaws.{generator-exists, generator-top}
 use Rattle.field.specs.Power.{nOf}
 use Rattle.generator.proofs.ProductPlaces.{product-local}
@@ -81,16 +83,6 @@ minimals-long = refl
 product-is-generator : (m row : ℕ) → productOf (first m) (suc row - first m) ≡ generatorOf m row
 unfolding generatorOf
 product-is-generator m row = refl
-
--- a list with something at place d reaches beyond it
-reaches : (p : List ℕ) (d : ℕ) → getD p d 0 ≡ 1 → d + 1 ≤ length p
-reaches p d e = pick (decLt d (length p))
-  where
-    pick : Dec (d < length p) → d + 1 ≤ length p
-    pick (yes h) = omega arith
-    pick (no n) =
-        let z : getD p d 0 ≡ 0 = List·getD-eq-default p 0 {n = d} (omega arith) in
-        absurd (omega arith)
 
 pub generated : {m row from n : ℕ} {g : List ℕ} → RowOf m row → from ≡ first m → n ≡ nOf m - getD ks row 0 + 1 → Cut (productOf from (row + 1 - from)) n g
     → Generator m (getD ts row 0) (nOf m - getD ks row 0) g

@@ -8,12 +8,14 @@ use native.Mathlib.Decide.{decLt}
 use native.Mathlib.Omega.{arith}
 use lib.ListN.{length, getD, take, replicate, length-replicate, List·getD-append}
 use lib.Seq.{getD-append-add, getD-take}
-use Rattle.bits.specs.Bits.{AreBits, addedAt, productBits}
+use Rattle.bits.specs.Bits.{AreBits}
+use Rattle.bits.specs.Work.{addedAt}
+use Rattle.bits.specs.Polynomial.{productBits}
 use Rattle.bits.proofs.BitLaws.{bits-replicate, bits-take, bits-addedAt, addedAt-before, zeros-at}
 use Rattle.field.specs.Sum.{_⊕_}
 use Rattle.field.proofs.SumLaws.{sum-zero}
 use Rattle.codes.proofs.SumLaws.{sum-place}
-use Rattle.generator.specs.Generator.{binary}
+use Rattle.generator.specs.Factors.{binary}
 use Rattle.generator.specs.Work.{Tapped, Multiplied}
 use Rattle.generator.proofs.Binary.{binary-zero, binary-more, length-binary}
 use Rattle.generator.proofs.ProductPlaces.{product-none, product-snoc}

@@ -1,3 +1,5 @@
 pub mod Minimals
 pub mod Generator
 pub mod Work
+pub mod Minimal
+pub mod Factors

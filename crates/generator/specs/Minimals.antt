@@ -1,4 +1,4 @@
--- The minimal polynomials as a constant table: one for each row of the listed codes.
+-- The minimal polynomials as a constant table: one for each row of the listed codes; no promise rests on it.
 use mathlib.Core.List.{List, [], _∷_}
 use Prim.Native.Nat.{ℕ}
 

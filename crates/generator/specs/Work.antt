@@ -1,13 +1,14 @@
--- What the steps of making a generator and of dividing by it leave in their buffers.
+-- What the steps of making a generator and of dividing by it leave in their buffers; no promise rests on it.
 use mathlib.Core.Path.{_≡_}
 use mathlib.Core.List.{List, _++_}
 use Prim.Native.Nat.{ℕ, _*_, _/_, _%_, _^_, _≤_, _<_}
 use lib.ListN.{length, getD, replicate}
-use Rattle.bits.specs.Bits.{AreBits, productBits}
+use Rattle.bits.specs.Bits.{AreBits}
+use Rattle.bits.specs.Polynomial.{productBits}
 use Rattle.field.specs.Sum.{_⊕_}
 use Rattle.field.specs.Product.{IsField}
 use Rattle.codes.specs.Sums.{sumOf}
-use Rattle.generator.specs.Generator.{binary}
+use Rattle.generator.specs.Factors.{binary}
 
 -- x^e times old is added where p's digit e is 1, as far as the buffer reaches
 pub record Tapped (p e : ℕ) (old before after : List ℕ) : Type 0 where

@@ -5,10 +5,11 @@ ghost use Prim.Native.Nat.{_+_, _-_, _≤_, _<_};
 ghost use lib.ListN.{length, getD, take, replicate};
 ghost use Rattle.bits.specs.Bits.{AreBits};
 ghost use Rattle.field.specs.Power.{nOf};
-ghost use Rattle.codes.specs.Table.{ts as Table·ts};
-ghost use Rattle.codes.specs.Table.{RowOf, ks};
+ghost use Rattle.codes.specs.Table.{ts as Table·ts, ks};
+ghost use Rattle.codes.specs.Rows.{RowOf};
 ghost use Rattle.generator.specs.Minimals.{minimals as Table·minimals};
-ghost use Rattle.generator.specs.Generator.{Generator, productOf};
+ghost use Rattle.generator.specs.Generator.{Generator};
+ghost use Rattle.generator.specs.Factors.{productOf};
 ghost use Rattle.generator.specs.Work.{Tapped, Multiplied, Cut, TakenAway, Reduced};
 
 mod table;

@@ -13,7 +13,7 @@ use Rattle.sheet.proofs.VerdictLaws.{all-pass, same-of}
 use Rattle.bits.proofs.BitLaws.{padded-at, zeros-at, bits-of-not-bad}
 use Rattle.bits.proofs.Turns.{paste-at, paste-after}
 use Rattle.codes.specs.declared.Code.{Code}
-use Rattle.codes.specs.Look.{Known}
+use Rattle.codes.specs.Work.{Known}
 use Rattle.kept.specs.Open.{openChecks}
 use Rattle.kept.specs.Work.{OpenReady}
 

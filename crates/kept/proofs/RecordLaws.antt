@@ -14,7 +14,7 @@ use Rattle.bits.specs.Bits.{hasBadBit, firstAbove}
 use Rattle.bits.proofs.BitLaws.{not-bad, bits-of-not-bad, bad-bit, no-bad-bit}
 use Rattle.field.proofs.Range.{sizes}
 use Rattle.codes.specs.declared.Code.{Code}
-use Rattle.codes.specs.Look.{Known}
+use Rattle.codes.specs.Work.{Known}
 use Rattle.kept.specs.declared.Kept.{Kept}
 use Rattle.kept.specs.Record.{someAtLeast, badRecord}
 use Rattle.kept.specs.Work.{Sound}

@@ -11,7 +11,7 @@ use Rattle.sheet.specs.Verdict.{Check, _⇒_, Always}
 use Rattle.bits.specs.Bits.{hasBadBit}
 use Rattle.codes.specs.declared.Code.{Code}
 use Rattle.codes.specs.Look.{CodePromise}
-use Rattle.sums.specs.Rows.{OddSums}
+use Rattle.sums.specs.OddSums.{OddSums}
 use Rattle.kept.specs.declared.Kept.{Kept}
 use Rattle.kept.specs.declared.Answer.{Answer}
 use Rattle.kept.specs.Record.{zeroKept}

@@ -1,12 +1,18 @@
 -- The kept record: "m, t, 1,023 bits, 255 sums (odd ones, in order)", and check 7.
+use mathlib.Core.Path.{_≡_}
 use mathlib.Core.Bool.{Bool, false, _||_}
 use mathlib.Core.List.{List, [], _∷_}
 use Prim.Native.Nat.{ℕ, _^_}
 use lib.Dec.{leb}
-use lib.ListN.{take, replicate}
+use lib.ListN.{length, take, replicate}
 use Rattle.bits.specs.Bits.{hasBadBit}
 use Rattle.codes.specs.declared.Code.{Code}
 use Rattle.kept.specs.declared.Kept.{Kept}
+
+-- 1,023 bits and 255 sums
+pub record Whole (stored : Kept) : Type 0 where
+  pub bits : length (stored .bits) ≡ 1023
+  pub sums : length (stored .sums) ≡ 255
 
 -- one of the numbers is the bound or more
 unfoldable pub someAtLeast : ℕ → List ℕ → Bool

@@ -1,11 +1,11 @@
--- What the checks leave; no promise of an operation speaks of it.
+-- What the checks leave; no promise rests on it.
 use mathlib.Core.Path.{_≡_}
 use mathlib.Core.List.{List}
 use Prim.Native.Nat.{ℕ, _^_, _<_}
 use lib.ListN.{length, getD, take}
 use Rattle.bits.specs.Bits.{AreBits}
 use Rattle.codes.specs.declared.Code.{Code}
-use Rattle.codes.specs.Look.{Known}
+use Rattle.codes.specs.Work.{Known}
 use Rattle.kept.specs.declared.Kept.{Kept}
 
 -- the checks of Open: a word of the code

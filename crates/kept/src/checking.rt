@@ -1,7 +1,7 @@
 // Check 7 of a kept record.
 
 ghost use mathlib.Core.Path.{_≡_};
-ghost use Rattle.codes.specs.Look.{Known};
+ghost use Rattle.codes.specs.Work.{Known};
 ghost use Rattle.kept.specs.Record.{someAtLeast, badRecord};
 use crate::Kept;
 use codes::Code;

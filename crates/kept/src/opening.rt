@@ -4,7 +4,7 @@ ghost use mathlib.Core.Path.{_≡_};
 ghost use mathlib.Core.List.{_++_};
 ghost use Prim.Native.Nat.{_-_, _≤_};
 ghost use lib.ListN.{length, replicate};
-ghost use Rattle.codes.specs.Look.{Checked};
+ghost use Rattle.codes.specs.Work.{Checked};
 ghost use Rattle.kept.specs.Open.{Opens, Opened, openChecks};
 ghost use Rattle.kept.specs.Work.{OpenReady};
 use crate::Answer;

@@ -1,4 +1,4 @@
--- The key equation's run in numbers: what the arrays hold of it.
+-- The key equation's run in numbers: what the arrays hold of it; no promise rests on it.
 use mathlib.Core.Path.{_≡_}
 use mathlib.Core.List.{List, _++_}
 use Prim.Native.Nat.{ℕ, _+_, _*_, _%_, _^_, _≤_, _<_}

@@ -1,4 +1,4 @@
--- What the steps of the run leave in their buffers, in plain numbers.
+-- What the steps of the run leave in their buffers, in plain numbers; no promise rests on it.
 use mathlib.Core.Path.{_≡_}
 use mathlib.Core.List.{List, _++_}
 use Prim.Native.Nat.{ℕ, zero, suc, _+_, _-_, _*_, _^_, _<_}

@@ -1,4 +1,4 @@
--- What the steps of making and reading a frame hand to each other; no promise of an operation speaks of it.
+-- What the steps of making and reading a frame hand to each other; no promise rests on it.
 use mathlib.Core.Path.{_≡_}
 use mathlib.Core.Bool.{cond}
 use mathlib.Core.List.{List}

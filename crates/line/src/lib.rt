@@ -45,7 +45,7 @@ fn write_refused(number: u64, refusal: Refusal, out: &mut [u8]) -> usize
 }
 
 // A number and the text after it, from index `at` on. Gives the index past them.
-fn put_field(out: &mut [u8], at: usize, n: u64, after: &[u8]) -> usize
+pub fn put_field(out: &mut [u8], at: usize, n: u64, after: &[u8]) -> usize
     requires { ⌜ at + 20 + length (now after) ≤ length (now out) ⌝ }
     ensures { λ r. ⌜ PutField (now (out .entry)) at n (now (after .entry)) (now (out .exit)) r ⌝ }
 {

@@ -1,4 +1,4 @@
--- What the stages of the trial leave in their buffers, in plain numbers.
+-- What the stages of the trial leave in their buffers, in plain numbers; no promise rests on it.
 use mathlib.Core.Path.{_≡_}
 use mathlib.Core.Bool.{Bool, true, false, cond}
 use mathlib.Core.List.{List, [], _∷_, _++_}

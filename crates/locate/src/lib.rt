@@ -8,8 +8,9 @@ ghost use Rattle.entries.specs.Entries.{Filled};
 ghost use Rattle.field.specs.Product.{IsField};
 ghost use Rattle.field.specs.Power.{nOf};
 ghost use Rattle.field.specs.Tables.{Powers, Tables};
-ghost use Rattle.sums.specs.Rows.{OddSums, Vanish};
-ghost use Rattle.locate.specs.Located.{Searched, WordSearched};
+ghost use Rattle.sums.specs.Rows.{Vanish};
+ghost use Rattle.sums.specs.OddSums.{OddSums};
+ghost use Rattle.locate.specs.Search.{Searched, WordSearched};
 ghost use Rattle.locate.specs.Work.{plusTerm, tried, NotedOne, Tried, Agrees, Sought};
 
 // How many places were found, or that no set of places has these sums.

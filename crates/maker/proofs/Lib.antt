@@ -1,1 +1,4 @@
+pub mod LinesLaws
 pub mod KeptLaws
+pub mod PutLaws
+pub mod StepLaws

@@ -1,27 +1,23 @@
 // Makes frames of typed lines that come in on standard input, 32 bytes each on standard output; a line that says no reading is named on standard error.
 
 ghost use mathlib.Core.Path.{_≡_};
+ghost use mathlib.Core.List.{[], _∷_};
 ghost use Prim.Native.Nat.{_+_, _≤_};
 ghost use lib.ListN.{length};
-ghost use Rattle.maker.specs.Work.{Keeps};
+ghost use Rattle.maker.specs.Making.{Fills, FillsLast};
+ghost use Rattle.maker.specs.Work.{Room, Ready, StepReady, Steps, Keeps, PutFrame, PutName, emptied};
 use layout::Reading;
 use libc::STDERR_FILENO;
-use libc::STDIN_FILENO;
 use libc::STDOUT_FILENO;
 use typed::Typed;
 
-// How far the work is: the lines that have ended, the bytes kept of the line that has not, the bytes of frames not yet written, and whether every write was taken.
-struct Progress {
-    lines: u64,
-    held: usize,
-    end: usize,
-    going: bool,
-}
-
-// What a read gave; where it is no byte, the input has ended unless the read has failed.
-struct Came {
-    count: usize,
-    failed: bool,
+// How far the work is: the lines that have ended, the bytes held of the line that has not, and the bytes of frames and of names that stand in their buffers.
+// Public, since theorems of another crate speak of it.
+pub struct Progress {
+    pub lines: u64,
+    pub held: usize,
+    pub frames: usize,
+    pub names: usize,
 }
 
 // Until the input ends, a read or a write fails, or 64,000,000 bytes are read.
@@ -29,13 +25,15 @@ pub fn make_frames() {
     let mut block = block_space();
     let mut line = line_space();
     let mut frames = io::large_buffer();
-    make_blocks(&mut block, &mut line, &mut frames);
+    let mut names = io::large_buffer();
+    make_blocks(&mut block, &mut line, &mut frames, &mut names);
 }
 
-fn block_space() -> [u8; 2000]
-    ensures { λ r. ⌜ 2000 ≡ length r ⌝ }
+// 1,000 bytes end at most 1,000 lines, whose frames and names have room.
+fn block_space() -> [u8; 1000]
+    ensures { λ r. ⌜ 1000 ≡ length r ⌝ }
 {
-    [0; 2000]
+    [0; 1000]
 }
 
 // A line that says a reading has at most 62 bytes, so the first 63 tell what a line says.
@@ -45,171 +43,191 @@ fn line_space() -> [u8; 63]
     [0; 63]
 }
 
-// Each byte ends at most one line, so the frames of a block have room. A line that is cut off by the last byte read or by a failure is not taken: its counter may be cut too.
-fn make_blocks(block: &mut [u8], line: &mut [u8], frames: &mut [u8])
-    requires { ⌜ (length (now block) ≡ 2000) × (length (now line) ≡ 63) × (length (now frames) ≡ 65536) ⌝ }
+// A line that is cut off by the last byte read or by a failure is not taken: its counter may be cut too.
+fn make_blocks(block: &mut [u8], line: &mut [u8], frames: &mut [u8], names: &mut [u8])
+    requires { ⌜ (length (now block) ≡ 1000) × Room (now line) (now frames) (now names) ⌝ }
 {
     let mut at = Progress {
         lines: 0,
         held: 0,
-        end: 0,
-        going: true,
+        frames: 0,
+        names: 0,
     };
     let mut left = 64000000;
     while left > 0 {
-        let came = read_some(left, block);
+        let came = input::read_after(0, left, block);
         let count = came.count;
         if count < 1 {
-            end_input(came, at, line, frames);
+            end_input(came.failed, at, line, frames, names);
             return;
         }
-        at = make_block(&block[..count], at, line, frames);
-        if !at.going {
+        at = fill_frames(&block[..count], at, line, frames, names);
+        let written = write_out(at, frames, names);
+        if !written {
             return;
         }
         left -= count;
     }
 }
 
-fn least(a: usize, b: usize) -> usize
-    ensures { λ r. ⌜ (r ≤ a) × (r ≤ b) ⌝ }
+fn end_input(failed: bool, at: Progress, line: &[u8], frames: &mut [u8], names: &mut [u8])
+    requires { ⌜ Ready 1 at (now line) (now frames) (now names) ⌝ }
 {
-    if a < b { a } else { b }
-}
-
-// At most `left` bytes, to the front of the block.
-fn read_some(left: usize, block: &mut [u8]) -> Came
-    ensures { λ r. ⌜ (r .count ≤ left) × (r .count ≤ length (now (block .entry))) ⌝ }
-{
-    let most = least(left, block.len());
-    let got = libc::read(STDIN_FILENO, &mut block[..most]);
-    let count = io::count(got, &block[..most]);
-    Came {
-        count,
-        failed: got < 0,
-    }
-}
-
-// A last line without its end counts; nothing after the last end is no line.
-fn end_input(came: Came, at: Progress, line: &[u8], frames: &mut [u8])
-    requires { ⌜ (at .lines ≤ 64000000) × (at .held ≤ length (now line)) × (at .end + 32 ≤ length (now frames)) ⌝ }
-{
-    if came.failed {
+    if failed {
+        io::write_all(STDERR_FILENO, b"making: reading standard input failed\n");
         return;
     }
-    if at.held == 0 {
-        return;
-    }
-    let last = end_line(at, line, frames);
-    write_out(last, frames);
+    let last = fill_last(at, line, frames, names);
+    write_out(last, frames, names);
 }
 
-fn make_block(bytes: &[u8], before: Progress, line: &mut [u8], frames: &mut [u8]) -> Progress
-    requires { ⌜ (length (now bytes) ≤ 2000) × (before .lines + length (now bytes) ≤ 64000000) × (before .held ≤ length (now line)) × (before .end ≡ 0) × (length (now frames) ≡ 65536) ⌝ }
-    ensures { λ r. ⌜ (r .lines ≤ before .lines + length (now (bytes .entry))) × (r .held ≤ length (now (line .exit))) × (r .end ≡ 0) ⌝ }
+// The frames go out before the names. Whether both were taken.
+fn write_out(at: Progress, frames: &[u8], names: &[u8]) -> bool
+    requires { ⌜ (at .frames ≤ length (now frames)) × (at .names ≤ length (now names)) ⌝ }
 {
-    let mut at = before;
+    let frames_end = at.frames;
+    let names_end = at.names;
+    let written = io::write_all(STDOUT_FILENO, &frames[..frames_end]);
+    if !written {
+        io::write_all(STDERR_FILENO, b"making: writing standard output failed\n");
+        return false;
+    }
+    io::write_all(STDERR_FILENO, &names[..names_end])
+}
+
+// Fills both buffers from the front with what the bytes give.
+fn fill_frames(
+    bytes: &[u8],
+    before: Progress,
+    line: &mut [u8],
+    frames: &mut [u8],
+    names: &mut [u8],
+) -> Progress
+    requires { ⌜ Ready (length (now bytes)) before (now line) (now frames) (now names) ⌝ }
+    ensures { λ r. ⌜ Fills before (now (line .entry)) (now (bytes .entry)) (now (frames .entry)) (now (names .entry))
+        r (now (line .exit)) (now (frames .exit)) (now (names .exit)) ⌝ }
+{
+    let mut at = with_empty_buffers(before);
     let mut i = 0;
     while i < bytes.len() {
-        at = take_byte(bytes[i], at, line, frames);
+        at = take_byte(bytes[i], at, line, frames, names);
         i += 1;
     }
-    write_out(at, frames)
+    at
 }
 
-// After a write that failed nothing is taken any more.
-fn take_byte(byte: u8, at: Progress, line: &mut [u8], frames: &mut [u8]) -> Progress
-    requires { ⌜ (at .lines ≤ 64000000) × (at .held ≤ length (now line)) × (at .end + 32 ≤ length (now frames)) ⌝ }
-    ensures { λ r. ⌜ (r .lines ≤ at .lines + 1) × (r .held ≤ length (now (line .exit))) × (r .end ≤ at .end + 32) ⌝ }
+// The same at the end of the input: a last line without its end counts; nothing after the last end is no line.
+fn fill_last(before: Progress, line: &[u8], frames: &mut [u8], names: &mut [u8]) -> Progress
+    requires { ⌜ Ready 1 before (now line) (now frames) (now names) ⌝ }
+    ensures { λ r. ⌜ FillsLast before (now (line .entry)) (now (frames .entry)) (now (names .entry)) r (now (frames .exit)) (now (names .exit)) ⌝ }
 {
-    if !at.going {
+    let at = with_empty_buffers(before);
+    if at.held == 0 {
         return at;
     }
+    end_line(at, line, frames, names)
+}
+
+fn with_empty_buffers(before: Progress) -> Progress
+    ensures { λ r. ⌜ r ≡ emptied before ⌝ }
+{
+    Progress {
+        lines: before.lines,
+        held: before.held,
+        frames: 0,
+        names: 0,
+    }
+}
+
+fn take_byte(
+    byte: u8,
+    at: Progress,
+    line: &mut [u8],
+    frames: &mut [u8],
+    names: &mut [u8],
+) -> Progress
+    requires { ⌜ StepReady at (now line) (now frames) (now names) ⌝ }
+    ensures { λ r. ⌜ Steps at (now (line .entry)) (byte ∷ []) (now (frames .entry)) (now (names .entry))
+        r (now (line .exit)) (now (frames .exit)) (now (names .exit)) ⌝ }
+{
     if byte == 10 {
-        return end_line(at, line, frames);
+        return end_line(at, line, frames, names);
     }
     keep(byte, at, line)
 }
 
 // One byte more of the line; where there is no room it is dropped.
 fn keep(byte: u8, at: Progress, line: &mut [u8]) -> Progress
-    requires { ⌜ at .held ≤ length (now line) ⌝ }
+    requires { ⌜ (length (now line) ≡ 63) × (at .held ≤ 63) ⌝ }
     ensures { λ r. ⌜ Keeps (now (line .entry)) at byte (now (line .exit)) r ⌝ }
 {
     let held = at.held;
     if held < line.len() {
+        let next = held + 1;
         line[held] = byte;
         return Progress {
             lines: at.lines,
-            held: held + 1,
-            end: at.end,
-            going: at.going,
+            held: next,
+            frames: at.frames,
+            names: at.names,
         };
     }
     at
 }
 
-fn end_line(at: Progress, line: &[u8], frames: &mut [u8]) -> Progress
-    requires { ⌜ (at .lines ≤ 64000000) × (at .held ≤ length (now line)) × (at .end + 32 ≤ length (now frames)) ⌝ }
-    ensures { λ r. ⌜ (r .lines ≤ at .lines + 1) × (r .held ≡ 0) × (r .end ≤ at .end + 32) ⌝ }
+fn end_line(at: Progress, line: &[u8], frames: &mut [u8], names: &mut [u8]) -> Progress
+    requires { ⌜ StepReady at (now line) (now frames) (now names) ⌝ }
+    ensures { λ r. ⌜ Steps at (now (line .entry)) (10 ∷ []) (now (frames .entry)) (now (names .entry))
+        r (now (line .entry)) (now (frames .exit)) (now (names .exit)) ⌝ }
 {
     let held = at.held;
+    let frames_end = at.frames;
+    let names_end = at.names;
+    let number = at.lines + 1;
     let answer = typed::read(&line[..held]);
     match answer {
-        Typed::Said(reading) => add_frame(reading, at, frames),
-        Typed::Nothing => refuse(at, frames),
+        Typed::Said(reading) => {
+            let next = put_frame(reading, frames_end, frames);
+            Progress {
+                lines: number,
+                held: 0,
+                frames: next,
+                names: names_end,
+            }
+        }
+        Typed::Nothing => {
+            let next = put_name(number, names_end, names);
+            Progress {
+                lines: number,
+                held: 0,
+                frames: frames_end,
+                names: next,
+            }
+        }
     }
 }
 
-fn add_frame(reading: Reading, at: Progress, frames: &mut [u8]) -> Progress
-    requires { ⌜ (at .lines ≤ 64000000) × (at .end + 32 ≤ length (now frames)) ⌝ }
-    ensures { λ r. ⌜ (r .lines ≡ at .lines + 1) × (r .held ≡ 0) × (r .end ≡ at .end + 32) ⌝ }
+// A frame, from index `at` on. Gives the index past it.
+fn put_frame(reading: Reading, at: usize, frames: &mut [u8]) -> usize
+    requires { ⌜ at + 32 ≤ length (now frames) ⌝ }
+    ensures { λ r. ⌜ PutFrame reading (now (frames .entry)) at (now (frames .exit)) r ⌝ }
 {
-    let end = at.end;
-    let next = end + 32;
-    frame::make(reading, &mut frames[end..next]);
-    Progress {
-        lines: at.lines + 1,
-        held: 0,
-        end: next,
-        going: at.going,
-    }
+    let next = at + 32;
+    frame::make(reading, &mut frames[at..next]);
+    next
 }
 
-// The frames before the line go out before its name does.
-fn refuse(at: Progress, frames: &[u8]) -> Progress
-    requires { ⌜ (at .lines ≤ 64000000) × (at .end ≤ length (now frames)) ⌝ }
-    ensures { λ r. ⌜ (r .lines ≤ at .lines + 1) × (r .held ≡ 0) × (r .end ≡ 0) ⌝ }
+// The name of a line, from index `at` on. Gives the index past it.
+fn put_name(number: u64, at: usize, names: &mut [u8]) -> usize
+    requires { ⌜ (number ≤ 64000000) × (at + 68 ≤ length (now names)) ⌝ }
+    ensures { λ r. ⌜ PutName number (now (names .entry)) at (now (names .exit)) r ⌝ }
 {
-    let out = write_out(at, frames);
-    let number = at.lines + 1;
-    Progress {
-        lines: number,
-        held: 0,
-        end: 0,
-        going: out.going && name_line(number),
-    }
-}
-
-fn name_line(number: u64) -> bool {
-    io::write_all(STDERR_FILENO, b"line ")
-        && io::print_decimal(STDERR_FILENO, number)
-        && io::write_all(
-            STDERR_FILENO,
-            b": not a house, a poll number and a counter\n",
-        )
-}
-
-fn write_out(at: Progress, frames: &[u8]) -> Progress
-    requires { ⌜ at .end ≤ length (now frames) ⌝ }
-    ensures { λ r. ⌜ (r .lines ≡ at .lines) × (r .held ≡ at .held) × (r .end ≡ 0) ⌝ }
-{
-    let end = at.end;
-    let written = io::write_all(STDOUT_FILENO, &frames[..end]);
-    Progress {
-        lines: at.lines,
-        held: at.held,
-        end: 0,
-        going: at.going && written,
-    }
+    bits::copy_at(names, at, b"line ");
+    let number_at = at + 5;
+    line::put_field(
+        names,
+        number_at,
+        number,
+        b": not a house, a poll number and a counter\n",
+    )
 }

@@ -6,7 +6,8 @@ use native.Mathlib.Omega.{arith}
 use lib.Bits.{bitXor, xor-zero-l}
 use lib.ListN.{length, getD, take, drop, replicate, length-drop, length-replicate}
 use lib.Seq.{getD-take, getD-drop, length-take-le}
-use Rattle.bits.specs.Bits.{AreBits, addedAt}
+use Rattle.bits.specs.Bits.{AreBits}
+use Rattle.bits.specs.Work.{addedAt}
 use Rattle.bits.proofs.BitLaws.{zeros-at, bits-replicate, bits-take, bits-drop, bits-addedAt, length-addedAt, addedAt-before, addedAt-from, addedAt-after}
 use Rattle.parity.specs.Work.{MessageChange}
 

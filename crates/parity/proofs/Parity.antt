@@ -6,7 +6,8 @@ use native.Mathlib.Decide.{decLt}
 use native.Mathlib.Omega.{arith}
 use lib.ListN.{length, getD, take, replicate, List·getD-eq-default, length-replicate}
 use lib.Seq.{getD-take, length-take-le, paste}
-use Rattle.bits.specs.Bits.{AreBits, addedAt}
+use Rattle.bits.specs.Bits.{AreBits}
+use Rattle.bits.specs.Work.{addedAt}
 use Rattle.bits.proofs.BitLaws.{bits-take, bits-addedAt, addedAt-zero, addedAt-after}
 use Rattle.bits.proofs.Turns.{paste-at}
 use Rattle.field.specs.Sum.{_⊕_}

@@ -1,4 +1,4 @@
--- What adding the parity leaves in the word, and what the change of a message is.
+-- What adding the parity leaves in the word, and what the change of a message is; no promise rests on it.
 use mathlib.Core.Path.{_≡_}
 use mathlib.Core.List.{List}
 use Prim.Native.Nat.{ℕ, _+_, _≤_, _<_}
@@ -7,7 +7,7 @@ use lib.ListN.{length, getD}
 use Rattle.bits.specs.Bits.{AreBits}
 use Rattle.field.specs.Product.{IsField}
 use Rattle.codes.specs.declared.Code.{Code}
-use Rattle.codes.specs.Look.{Known}
+use Rattle.codes.specs.Work.{Known}
 use Rattle.codes.specs.Sums.{sumOf}
 
 -- a message of a listed code

@@ -1,15 +1,19 @@
 -- Checks one after another, what a promise gives where they pass and where they refuse, and the one outcome that it leaves.
-use mathlib.Core.Path.{_≡_, _∙_, refl, sym, ap}
+use mathlib.Core.Path.{_≡_, _∙_, refl, sym, ap, subst}
 use mathlib.Core.Bool.{true, false, not}
 use mathlib.Core.List.{List, [], _∷_, _++_}
+use mathlib.Core.Logic.{_≢_, _↔_, _⊎_, inl, inr}
 use Prim.Native.Nat.{ℕ}
 use native.Mathlib.Omega.{arith}
 use borrow.Author.Tests.{eq-eqb, ne-eqb, eqb-true, not-false}
-use lib.Dec.{eqb}
+use lib.Dec.{T, eqb, eqb-refl, T-not}
 use Rattle.sheet.specs.declared.Refusal.{Refusal}
+use Rattle.sheet.specs.declared.Refusal.the-variants.{NothingNear}
 use Rattle.sheet.specs.declared.Outcome.{Outcome}
 use Rattle.sheet.specs.declared.Outcome.the-variants.{Done, Refused}
-use Rattle.sheet.specs.Verdict.{Check, _⇒_, verdict, AllPass, Promise, Always, Searches, finds, finds-nothing}
+use Rattle.sheet.specs.Number.{numberOf}
+use Rattle.sheet.specs.Verdict.{Check, _⇒_, verdict, Promise, Always, Searches, finds, finds-nothing}
+use Rattle.sheet.specs.Work.{AllPass}
 
 pub not-done : {r : Refusal} → Refused r ≡ Done → ⊥
 not-done {r} e = let z : _≡_ {A = ℕ} 0 1 = cc in omega arith
@@ -66,6 +70,15 @@ module _ {L : Type 0} {Does : Outcome → L → Type 0} {stays : L} where
   pub does : {checks : List Check} {answer : Outcome} {left : L} → verdict checks ≡ Done → Does answer left → Promise checks Does stays answer left
   does e d = record { refused = λ s z. absurd (not-done (sym z ∙ e)); done = λ z. d }
 
+  -- what is refused leaves everything, where what is done does so too
+  pub refused-stays : {checks : List Check} {answer : Outcome} {left : L} → (Does answer left → answer ≢ Done → left ≡ stays)
+      → Promise checks Does stays answer left → answer ≢ Done → left ≡ stays
+  refused-stays {checks} {answer} {left} d p n = pick (verdict-cases (verdict checks))
+    where
+      pick : Verdict (verdict checks) → left ≡ stays
+      pick (passed e) = d (p .done e) n
+      pick (refused r e) = p .refused r e .1
+
   -- one outcome, where what is done is one
   pub promise-one : {checks : List Check} {x y : Outcome} {left left′ : L}
       → (verdict checks ≡ Done → Does x left → Does y left′ → (x ≡ y) × (left ≡ left′))
@@ -87,6 +100,9 @@ module _ {L : Type 0} {Did : L → Type 0} where
   pub always-one : {x y : Outcome} {left left′ : L} → (Did left → Did left′ → left ≡ left′) → Always Did x left → Always Did y left′ → (x ≡ y) × (left ≡ left′)
   always-one u a b = (a .is-done ∙ sym (b .is-done), u (a .did) (b .did))
 
+  pub always-stays : {stays : L} {answer : Outcome} {left : L} → Always Did answer left → answer ≢ Done → left ≡ stays
+  always-stays a n = absurd (n (a .is-done))
+
   -- its answer is what its checks come to
   pub answer-is : {checks : List Check} {stays : L} {answer : Outcome} {left : L} → Promise checks (Always Did) stays answer left → answer ≡ verdict checks
   answer-is {checks} {stays} {answer} p = pick (verdict-cases (verdict checks))
@@ -94,6 +110,11 @@ module _ {L : Type 0} {Did : L → Type 0} where
       pick : Verdict (verdict checks) → answer ≡ verdict checks
       pick (passed e) = p .done e .is-done ∙ sym e
       pick (refused r e) = p .refused r e .0 ∙ sym e
+
+  -- where it is done, all checks have passed
+  pub done-passed : {checks : List Check} {stays : L} {answer : Outcome} {left : L} → Promise checks (Always Did) stays answer left → answer ≡ Done
+      → verdict checks ≡ Done
+  done-passed p e = sym (answer-is p) ∙ e
 
 -- an operation that searches: one outcome, where what is found is one and is not found where there is nothing
 pub search-one : {L : Type 0} {Found : L → Type 0} {Nothing : Type 0} {stays : L} {x y : Outcome} {left left′ : L}
@@ -103,3 +124,66 @@ search-one u n (finds a p) (finds b q) = (a ∙ sym b, u p q)
 search-one u n (finds a p) (finds-nothing b q l) = absurd (n _ p q)
 search-one u n (finds-nothing a p k) (finds b q) = absurd (n _ q p)
 search-one u n (finds-nothing a p k) (finds-nothing b q l) = (a ∙ sym b, k ∙ sym l)
+
+pub search-stays : {L : Type 0} {Found : L → Type 0} {Nothing : Type 0} {stays : L} {answer : Outcome} {left : L}
+    → Searches Found Nothing stays answer left → answer ≢ Done → left ≡ stays
+search-stays (finds a f) n = absurd (n a)
+search-stays (finds-nothing a f s) n = s
+
+-- no check has the refusal with this number
+abbrev pub NotAmong : ℕ → List Check → Type 0
+NotAmong n [] = Unit {0}
+NotAmong n ((b ⇒ r) ∷ later) = T (not (eqb (numberOf r) n)) × NotAmong n later
+
+pub same-refusal : {r s : Refusal} → Refused r ≡ Refused s → r ≡ s
+same-refusal {r} {s} e = cc
+
+-- checks do not come to a refusal that none of them has
+pub never-refused : (checks : List Check) (r : Refusal) → NotAmong (numberOf r) checks → verdict checks ≢ Refused r
+never-refused [] r n e = not-done (sym e)
+never-refused ((true ⇒ s) ∷ later) r (p, n) e =
+    T-not (eqb (numberOf s) (numberOf r)) p (subst (λ (x : Refusal). T (eqb (numberOf s) (numberOf x))) (same-refusal e) (eqb-refl (numberOf s)))
+never-refused ((false ⇒ s) ∷ later) r (p, n) e = never-refused later r n e
+
+-- where a refusal of an operation that searches comes from: a check, or 6 and there is nothing to find
+module _ {L : Type 0} {Found : L → Type 0} {Nothing : Type 0} {stays : L} {checks : List Check} {answer : Outcome} {left : L}
+    (p : Promise checks (Searches Found Nothing stays) stays answer left) where
+  pub search-refused : {r : Refusal} → answer ≡ Refused r → (verdict checks ≡ Refused r) ⊎ ((verdict checks ≡ Done) × ((r ≡ NothingNear) × Nothing))
+  search-refused {r} e = pick (verdict-cases (verdict checks))
+    where
+      found : verdict checks ≡ Done → Searches Found Nothing stays answer left → (verdict checks ≡ Done) × ((r ≡ NothingNear) × Nothing)
+      found z (finds a f) = absurd (not-done (sym e ∙ a))
+      found z (finds-nothing a f s) = (z, (same-refusal (sym e ∙ a), f))
+
+      pick : Verdict (verdict checks) → (verdict checks ≡ Refused r) ⊎ ((verdict checks ≡ Done) × ((r ≡ NothingNear) × Nothing))
+      pick (passed z) = inr (found z (p .done z))
+      pick (refused s z) = inl (z ∙ sym (p .refused s z .0) ∙ e)
+
+  -- exactly: what is found is not found where there is nothing
+  pub search-exactly : ((l : L) → Found l → Nothing → ⊥) → (r : Refusal)
+      → (answer ≡ Refused r) ↔ ((verdict checks ≡ Refused r) ⊎ ((verdict checks ≡ Done) × ((r ≡ NothingNear) × Nothing)))
+  search-exactly c r = (λ e. search-refused e, back)
+    where
+      searched : r ≡ NothingNear → Nothing → Searches Found Nothing stays answer left → answer ≡ Refused r
+      searched e f (finds a x) = absurd (c left x f)
+      searched e f (finds-nothing a g s) = a ∙ ap Refused (sym e)
+
+      back : (verdict checks ≡ Refused r) ⊎ ((verdict checks ≡ Done) × ((r ≡ NothingNear) × Nothing)) → answer ≡ Refused r
+      back (inl z) = p .refused r z .0
+      back (inr (z, (e, f))) = searched e f (p .done z)
+
+  -- 6 exactly if no check refuses and there is nothing to find
+  pub nothing-exactly : NotAmong 6 checks → ((l : L) → Found l → Nothing → ⊥) → (answer ≡ Refused NothingNear) ↔ ((verdict checks ≡ Done) × Nothing)
+  nothing-exactly n c = (λ e. there (search-refused e), λ (z, f). search-exactly c NothingNear .1 (inr (z, (refl, f))))
+    where
+      there : (verdict checks ≡ Refused NothingNear) ⊎ ((verdict checks ≡ Done) × ((NothingNear ≡ NothingNear) × Nothing)) → (verdict checks ≡ Done) × Nothing
+      there (inl z) = absurd (never-refused checks NothingNear n z)
+      there (inr (z, (e, f))) = (z, f)
+
+  -- a refusal that is neither 6 nor among the checks never comes
+  pub never-answered : (r : Refusal) → NotAmong (numberOf r) checks → r ≢ NothingNear → answer ≢ Refused r
+  never-answered r n d e = pick (search-refused e)
+    where
+      pick : (verdict checks ≡ Refused r) ⊎ ((verdict checks ≡ Done) × ((r ≡ NothingNear) × Nothing)) → ⊥
+      pick (inl z) = never-refused checks r n z
+      pick (inr (z, (f, g))) = d f

@@ -22,11 +22,6 @@ abbrev pub verdict : List Check → Outcome
 verdict [] = Done
 verdict ((b ⇒ r) ∷ later) = refuseIf b r (verdict later)
 
--- no check refuses
-abbrev pub AllPass : List Check → Type 0
-AllPass [] = Unit {0}
-AllPass ((b ⇒ r) ∷ later) = (b ≡ false) × AllPass later
-
 -- The promise of an operation. What is left is the contents of its buffers and the values beside the outcome. Where a check refuses, that refusal is
 -- the answer and everything stays; where all pass, the answer and what is left are as Does says.
 pub record Promise {L : Type 0} (checks : List Check) (Does : Outcome → L → Type 0) (stays : L) (answer : Outcome) (left : L) : Type 0 where

@@ -23,11 +23,12 @@ use Rattle.field.specs.Power.{a, power}
 use Rattle.field.proofs.SumLaws.{sum-zero, sum-assoc}
 use Rattle.field.proofs.PowerLaws.{power-mul}
 use Rattle.codes.specs.declared.Code.{Code}
-use Rattle.codes.specs.Look.{Known}
+use Rattle.codes.specs.Work.{Known}
 use Rattle.codes.specs.Sums.{sumOver}
 use Rattle.codes.proofs.SumLaws.{sumOver-nil}
 use Rattle.sums.proofs.SumSteps.{sumOver-snoc}
 use Rattle.kept.specs.declared.Kept.{Kept}
+use Rattle.kept.specs.Record.{Whole}
 use Rattle.kept.proofs.RecordLaws.{sound}
 use Rattle.splice.specs.Splice.{Spliced, spliceChecks}
 use Rattle.splice.specs.Work.{SpliceReady, PlaceSpliced, StretchSpliced, plusPlaces}
@@ -102,8 +103,20 @@ stretch-done {i = i} {stretch} S h = rw at S
     at = omega (arith, S .within)
 
 -- the parts of the record after the work
-pub spliced-parts : {c : Code} {stored after : Kept} {start : ℕ} {stretch : List ℕ} → after .m ≡ stored .m → after .t ≡ stored .t
+pub spliced-parts : {c : Code} {stored after : Kept} {start : ℕ} {stretch : List ℕ} → SpliceReady c stored start stretch → Whole stored
+    → after .m ≡ stored .m → after .t ≡ stored .t
     → StretchSpliced (c .m) (c .t) start stretch (stored .bits) (stored .sums) (after .bits) (after .sums) (length stretch)
     → Spliced c stored start stretch after
-spliced-parts e f S =
-    record { m-is = e; t-is = f; bits-are = S .is-bits; sums-long = S .filled .same; sums-changed = S .filled .holds; sums-rest = S .filled .rest }
+spliced-parts R W e f S =
+    record {
+      was-whole = W;
+      is-whole = record {
+        bits = stretch-long S (omega (arith, R .ends, R .known .small, W .bits)) ∙ W .bits;
+        sums = S .filled .same ∙ W .sums;
+      };
+      m-is = e;
+      t-is = f;
+      bits-are = S .is-bits;
+      sums-changed = S .filled .holds;
+      sums-rest = S .filled .rest;
+    }

@@ -15,7 +15,7 @@ use Rattle.codes.specs.Look.{CodePromise}
 use Rattle.codes.specs.Sums.{sumOver}
 use Rattle.kept.specs.declared.Kept.{Kept}
 use Rattle.kept.specs.declared.Answer.{Answer}
-use Rattle.kept.specs.Record.{badRecord}
+use Rattle.kept.specs.Record.{Whole, badRecord}
 
 abbrev pub spliceChecks : Kept → ℕ → List ℕ → Code → List Check
 spliceChecks stored start stretch c =
@@ -28,12 +28,13 @@ spliceChecks stored start stretch c =
 abbrev pub plusChange : Code → Kept → List ℕ → ℕ → ℕ
 plusChange c stored after i = getD (stored .sums) i 0 ⊕ sumOver (c .m) (2 * i + 1) (differences (stored .bits) after)
 
--- the stretch from its start on, the first t sums with the change, all else as it was
+-- the stretch from its start on, the first t sums with the change, all else as it was, the lengths too
 pub record Spliced (c : Code) (stored : Kept) (start : ℕ) (stretch : List ℕ) (after : Kept) : Type 0 where
+  pub was-whole : Whole stored
+  pub is-whole : Whole after
   pub m-is : after .m ≡ stored .m
   pub t-is : after .t ≡ stored .t
   pub bits-are : after .bits ≡ paste (stored .bits) start stretch (length stretch)
-  pub sums-long : length (after .sums) ≡ length (stored .sums)
   pub sums-changed : (i : ℕ) → i < c .t → getD (after .sums) i 0 ≡ plusChange c stored (after .bits) i
   pub sums-rest : (i : ℕ) → c .t ≤ i → getD (after .sums) i 0 ≡ getD (stored .sums) i 0
 

@@ -1,4 +1,4 @@
--- What the checks of Splice leave and what its steps hand to each other; no promise of the operation speaks of it.
+-- What the checks of Splice leave and what its steps hand to each other; no promise rests on it.
 use mathlib.Core.Path.{_≡_}
 use mathlib.Core.List.{List}
 use mathlib.Core.Logic.{_≢_}
@@ -13,7 +13,7 @@ use Rattle.field.specs.Product.{IsField}
 use Rattle.field.specs.Power.{a, nOf, power}
 use Rattle.field.specs.Tables.{Powers}
 use Rattle.codes.specs.declared.Code.{Code}
-use Rattle.codes.specs.Look.{Known}
+use Rattle.codes.specs.Work.{Known}
 use Rattle.codes.specs.Sums.{sumOver}
 use Rattle.sums.specs.Rows.{plusPower}
 use Rattle.kept.specs.declared.Kept.{Kept}

@@ -1,7 +1,7 @@
 // Splice: a stretch of a kept word replaced, and its sums brought up to date by the places that changed.
 
 ghost use lib.ListN.{length};
-ghost use Rattle.codes.specs.Look.{Checked};
+ghost use Rattle.codes.specs.Work.{Checked};
 ghost use Rattle.splice.specs.Splice.{Splices, Spliced, spliceChecks};
 ghost use Rattle.splice.specs.Work.{SpliceReady, StretchReady, PlaceReady, PlaceSpliced, StretchSpliced};
 use codes::Code;

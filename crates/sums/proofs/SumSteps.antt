@@ -22,7 +22,8 @@ use Rattle.entries.specs.Entries.{Filled, nothing}
 use Rattle.entries.proofs.FillLaws.{fill-from, fill-as, fill-after}
 use Rattle.walks.specs.Multiples.{plusWalk}
 use Rattle.field.proofs.Exponents.{around-power}
-use Rattle.sums.specs.Rows.{plusPower, wordSum, placeSum, Ones, OddSums}
+use Rattle.sums.specs.Rows.{plusPower, wordSum, placeSum, Ones}
+use Rattle.sums.specs.OddSums.{OddSums}
 
 -- from a^p on by a^(2p): the odd powers of a^p
 pub place-added : {m n step t : ℕ} {before after : List ℕ} (p : ℕ) → IsField m → n ≡ nOf m → step ≡ 2 * p % n

@@ -1,4 +1,4 @@
--- Rows of odd sums: entry i stands for S_(2i+1).
+-- Rows of odd sums: entry i stands for S_(2i+1); no promise rests on it.
 use mathlib.Core.Path.{_≡_}
 use mathlib.Core.Bool.{Bool, true, false}
 use mathlib.Core.List.{List}
@@ -25,12 +25,6 @@ pub record Ones (word : List ℕ) (count : ℕ) (places : List ℕ) : Type 0 whe
   pub within : count ≤ length places
   pub below : (i : ℕ) → i < count → getD places i 0 < length word
   pub same : {m : ℕ} → IsField m → (j : ℕ) → sumOver m j (take count places) ≡ sumOf m j word
-
--- 255 entries: the first t are the odd sums of a word, the others 0
-pub record OddSums (m t : ℕ) (word sums : List ℕ) : Type 0 where
-  pub long : 255 ≡ length sums
-  pub holds : (i : ℕ) → i < t → getD sums i 0 ≡ sumOf m (2 * i + 1) word
-  pub rest : (i : ℕ) → t ≤ i → getD sums i 0 ≡ 0
 
 -- the first t odd sums of a word are all 0, or not all of them
 pub record Vanish (m t : ℕ) (word : List ℕ) (r : Bool) : Type 0 where

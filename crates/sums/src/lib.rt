@@ -8,7 +8,8 @@ ghost use Rattle.entries.specs.Entries.{Filled};
 ghost use Rattle.field.specs.Product.{IsField};
 ghost use Rattle.field.specs.Power.{a, nOf, power};
 ghost use Rattle.field.specs.Tables.{Powers};
-ghost use Rattle.sums.specs.Rows.{plusPower, wordSum, placeSum, Ones, OddSums, Vanish};
+ghost use Rattle.sums.specs.Rows.{plusPower, wordSum, placeSum, Ones, Vanish};
+ghost use Rattle.sums.specs.OddSums.{OddSums};
 
 // To the first t entries x, x^3, x^5, .. is added, x = a^p: the powers of a from exponent p on, by 2p.
 pub fn add_place(m: usize, powers: &[u16], p: usize, t: usize, sums: &mut [u16])

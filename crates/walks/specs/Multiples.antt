@@ -1,4 +1,4 @@
--- Adding multiples of the powers of a into a row of entries.
+-- Adding multiples of the powers of a into a row of entries; no promise rests on it.
 use mathlib.Core.Path.{_≡_}
 use mathlib.Core.List.{List}
 use Prim.Native.Nat.{ℕ, _+_, _*_, _≤_, _<_}

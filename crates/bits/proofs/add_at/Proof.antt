@@ -8,7 +8,7 @@ use mathlib.Core.List.{List}
 use native.Mathlib.Numerals.{add-one}
 use native.Mathlib.Nat.{le-antisymm}
 use Prim.Native.Nat.{ℕ, _+_, _-_, _≤_, _<_}
-use Rattle.bits.specs.Bits.{addedAt}
+use Rattle.bits.specs.Work.{addedAt}
 use Rattle.bits.proofs.Turns.{addedAt-none, addedAt-more}
 use Rattle.bits.proofs.add_at.Statement.{statement}
 use Rattle.bits.proofs.add_at.Tie as tie

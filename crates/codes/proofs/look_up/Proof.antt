@@ -8,7 +8,8 @@ use lib.ListN.{getD}
 use Rattle.field.specs.Product.{IsField}
 use Rattle.field.specs.Power.{nOf}
 use Rattle.codes.specs.Table.{first, ks}
-use Rattle.codes.specs.Look.{rowFrom, rowOf, noMore, Checked}
+use Rattle.codes.specs.Look.{rowFrom, rowOf}
+use Rattle.codes.specs.Work.{noMore, Checked}
 use Rattle.codes.specs.declared.Look.the-variants.{Passes, Refused}
 use Rattle.sheet.specs.declared.Refusal.the-variants.{NotListed}
 use mathlib.Core.List.{List}

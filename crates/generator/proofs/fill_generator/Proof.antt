@@ -7,7 +7,8 @@ use native.Mathlib.Omega.{arith}
 use lib.ListN.{length, getD}
 use Rattle.field.specs.Power.{nOf}
 use Rattle.field.proofs.Range.{sizes}
-use Rattle.codes.specs.Table.{RowOf, ks, first}
+use Rattle.codes.specs.Table.{ks, first}
+use Rattle.codes.specs.Rows.{RowOf}
 use Rattle.codes.proofs.LookLaws.{rows-within}
 use Rattle.generator.specs.Work.{Cut}
 use Rattle.generator.proofs.Products.{generated}

@@ -8,7 +8,8 @@ use lib.ListN.{length, getD, take, drop, replicate, length-append, length-drop, 
 use lib.Seq.{take-at, length-take-le}
 use Rattle.field.specs.Power.{nOf}
 use Rattle.field.proofs.Range.{sizes}
-use Rattle.codes.specs.Table.{RowOf, ks}
+use Rattle.codes.specs.Table.{ks}
+use Rattle.codes.specs.Rows.{RowOf}
 use Rattle.generator.specs.Generator.{Generator}
 use Rattle.generator.proofs.generator.Statement.{statement}
 use Rattle.generator.proofs.generator.Tie as tie

@@ -5,7 +5,7 @@ use Prim.Native.Nat.{ℕ, _-_, _≤_}
 use native.Mathlib.Omega.{arith}
 use native.Mathlib.Nat.{le-antisymm}
 use lib.ListN.{length}
-use Rattle.generator.specs.Generator.{productOf}
+use Rattle.generator.specs.Factors.{productOf}
 use Rattle.generator.specs.Work.{Cut}
 use Rattle.generator.proofs.Products.{cut-start, cut-next, minimals-long}
 use Rattle.generator.proofs.multiply_rows.Statement.{statement}

@@ -1,52 +1,86 @@
--- A line has at most the 128 bytes of its room.
-use lib.ListN.{length-take}
+-- The frame is read where it stands, and its line is written into the next 128 bytes.
+use Prim.Native.Nat.{_+_, _-_}
 use native.Mathlib.Omega.{arith}
-use Rattle.lister.proofs.Lines.{line-fits}
+use lib.ListN.{drop, length-take}
+use Rattle.lister.proofs.ListLaws.{text-fits, line-added}
 use borrow.Author.Needs.{needs}
 use Rattle.lister.proofs.add_line.Statement.{statement}
 use Rattle.lister.proofs.add_line.Tie as tie
 
+mul-from : tie.Need-mul-from
+mul-from c = search needs
+
+add-least : tie.Need-add-least
+add-least c = search needs
+
+least-requires : tie.Need-least-requires
+least-requires c κs = search needs
+
+sub-read : tie.Need-sub-read
+sub-read c = search needs
+
+part-read-start : tie.Need-part-read-start
+part-read-start c = search needs
+
+part-read-end : tie.Need-part-read-end
+part-read-end c = search needs
+
 read-requires : tie.Need-read-requires
 read-requires c κs = search needs
 
-line-space-requires : tie.Need-line-space-requires
-line-space-requires c κs = search needs
+add-room : tie.Need-add-room
+add-room c = search needs
 
-slice-aggregate-write-line : tie.Need-slice-aggregate-write-line
-slice-aggregate-write-line c = search needs
+sub-write-line : tie.Need-sub-write-line
+sub-write-line c = search needs
+
+part-write-line-start : tie.Need-part-write-line-start
+part-write-line-start c = search needs
+
+part-write-line-end : tie.Need-part-write-line-end
+part-write-line-end c = search needs
 
 write-line-requires : tie.Need-write-line-requires
 write-line-requires c κs = search needs
 
-array-share-prefix-room : tie.Need-array-share-prefix-room
-array-share-prefix-room c = omega (arith, line-fits (c .before .before .write-line .ensures), c .before .before .write-line .kept .1 .1 .0, c .before .before .before .before .line-space .ensures)
-
-slice-aggregate-copy-at : tie.Need-slice-aggregate-copy-at
-slice-aggregate-copy-at c = simp length-take (omega (arith, line-fits (c .before .before .before .write-line .ensures), c .before .before .before .write-line .kept .1 .1 .0, c .before .before .before .before .before .line-space .ensures))
-
-copy-at-requires : tie.Need-copy-at-requires
-copy-at-requires c κs = simp length-take (omega (arith, c .before .before .before .before .before .before .before .before .before .pre, line-fits (c .before .before .before .write-line .ensures), c .before .before .before .write-line .kept .1 .1 .0, c .before .before .before .before .before .line-space .ensures))
-
 add-result : tie.Need-add-result
-add-result c = let k = c .before .before .before .before .before .before .before .before .before .before .before .before in omega (arith, c .before .before .before .before .before .before .before .before .before .before .before .before .pre, line-fits (c .before .before .before .before .before .before .write-line .ensures), c .before .before .before .before .before .before .write-line .kept .1 .1 .0, c .before .before .before .before .before .before .before .before .line-space .ensures)
+add-result c =
+    let written = c .before .before in
+    let read = written .before .before in
+    let entry = read .before .before .before .before .before in
+    let end = entry .args .end in
+    let room = length-take (end + 128 - end) (drop end (entry .args .lines .now)) in
+    record { fits = omega (arith, text-fits (written .write-line .ensures), written .write-line .kept .1 .1 .0, room) }
 
 same-length : tie.Need-same-length
 same-length c = search needs
 
 returns : tie.Need-returns
-returns c = omega (arith, line-fits (c .before .before .before .before .before .before .write-line .ensures), c .before .before .before .before .before .before .write-line .kept .1 .1 .0, c .before .before .before .before .before .before .before .before .line-space .ensures)
+returns c =
+    let written = c .before .before in
+    let read = written .before .before in
+    let cut = read .before .before in
+    let entry = cut .before .before .before in
+    let end = entry .args .end in
+    line-added (entry .args .frames .now) (entry .args .lines .now) end (end + 128 - end) (entry .pre .0) (cut .least .ensures) (read .read .ensures)
+    (omega arith) (omega arith) (written .write-line .kept .1 .1 .0) (written .write-line .ensures)
 
 pub add-line-spec : {M : Type 1} → statement M
 add-line-spec =
     tie.close
     (tie.spec
+    mul-from
+    add-least
+    least-requires
+    sub-read
+    part-read-start
+    part-read-end
     read-requires
-    line-space-requires
-    slice-aggregate-write-line
+    add-room
+    sub-write-line
+    part-write-line-start
+    part-write-line-end
     write-line-requires
-    array-share-prefix-room
-    slice-aggregate-copy-at
-    copy-at-requires
     add-result
     same-length
     returns)

@@ -14,14 +14,14 @@ large-buffer-requires-2 c κs = search needs
 array-borrow-prefix-frames : tie.Need-array-borrow-prefix-frames
 array-borrow-prefix-frames c = search needs
 
-slice-aggregate-list-blocks : tie.Need-slice-aggregate-list-blocks
-slice-aggregate-list-blocks c = simp length-take (omega arith)
+slice-aggregate-list-pieces : tie.Need-slice-aggregate-list-pieces
+slice-aggregate-list-pieces c = simp length-take (omega arith)
 
-slice-aggregate-list-blocks-2 : tie.Need-slice-aggregate-list-blocks-2
-slice-aggregate-list-blocks-2 c = search needs
+slice-aggregate-list-pieces-2 : tie.Need-slice-aggregate-list-pieces-2
+slice-aggregate-list-pieces-2 c = search needs
 
-list-blocks-requires : tie.Need-list-blocks-requires
-list-blocks-requires c κs = simp length-take (omega arith)
+list-pieces-requires : tie.Need-list-pieces-requires
+list-pieces-requires c κs = simp length-take (omega arith)
 
 returns : tie.Need-returns
 returns c = search needs
@@ -33,7 +33,7 @@ list-spec =
     large-buffer-requires
     large-buffer-requires-2
     array-borrow-prefix-frames
-    slice-aggregate-list-blocks
-    slice-aggregate-list-blocks-2
-    list-blocks-requires
+    slice-aggregate-list-pieces
+    slice-aggregate-list-pieces-2
+    list-pieces-requires
     returns)

@@ -7,7 +7,7 @@ use lib.ListN.{getD}
 use Rattle.bits.specs.Bits.{AreBits}
 use Rattle.field.specs.Product.{IsField}
 use Rattle.codes.proofs.SumLaws.{sum-bounded}
-use Rattle.sums.specs.Rows.{OddSums}
+use Rattle.sums.specs.OddSums.{OddSums}
 use Rattle.locate.proofs.of_word.Statement.{statement}
 use Rattle.locate.proofs.of_word.Tie as tie
 

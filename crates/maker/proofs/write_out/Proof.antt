@@ -1,4 +1,4 @@
--- The front of the buffer is as long as it says.
+-- The fronts of the buffers are as long as they say.
 use borrow.Author.Needs.{needs}
 use native.Mathlib.Omega.{arith}
 use lib.ListN.{length-take}
@@ -11,12 +11,33 @@ slice-aggregate-write-all c = simp length-take (omega arith)
 write-all-requires : tie.Need-write-all-requires
 write-all-requires c κs = search needs
 
+slice-aggregate-write-all-2 : tie.Need-slice-aggregate-write-all-2
+slice-aggregate-write-all-2 c = search needs
+
+write-all-requires-2 : tie.Need-write-all-requires-2
+write-all-requires-2 c κs = search needs
+
 returns : tie.Need-returns
 returns c = search needs
+
+slice-aggregate-write-all-3 : tie.Need-slice-aggregate-write-all-3
+slice-aggregate-write-all-3 c = simp length-take (omega arith)
+
+write-all-requires-3 : tie.Need-write-all-requires-3
+write-all-requires-3 c κs = search needs
 
 returns-2 : tie.Need-returns-2
 returns-2 c = search needs
 
 pub write-out-spec : {M : Type 1} → statement M
 write-out-spec =
-    tie.close (tie.spec slice-aggregate-write-all write-all-requires returns returns-2)
+    tie.close
+    (tie.spec
+    slice-aggregate-write-all
+    write-all-requires
+    slice-aggregate-write-all-2
+    write-all-requires-2
+    returns
+    slice-aggregate-write-all-3
+    write-all-requires-3
+    returns-2)

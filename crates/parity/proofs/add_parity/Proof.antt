@@ -6,7 +6,8 @@ use Prim.Native.Nat.{ℕ, _≤_}
 use native.Mathlib.Omega.{arith}
 use lib.ListN.{length, take, drop, length-append}
 use lib.Seq.{length-take-le, take-append-le}
-use Rattle.bits.specs.Bits.{AreBits, addedAt}
+use Rattle.bits.specs.Bits.{AreBits}
+use Rattle.bits.specs.Work.{addedAt}
 use Rattle.bits.proofs.Turns.{copied-front}
 use Rattle.generator.specs.Work.{Reduced}
 use Rattle.parity.proofs.Parity.{with-parity}

@@ -1,17 +1,14 @@
 -- A record has room for the places and the sums of every code.
-use mathlib.Core.Path.{_≡_, refl}
+use mathlib.Core.Path.{refl}
 use native.Mathlib.Omega.{arith}
-use lib.ListN.{length}
+use Rattle.kept.specs.Record.{Whole}
 use Rattle.splice.proofs.SpliceLaws.{spliced-parts}
 use borrow.Author.Needs.{needs}
 use Rattle.splice.proofs.spliced.Statement.{statement}
 use Rattle.splice.proofs.spliced.Tie as tie
 
-bits-long : (entry : tie.Start) → length (entry .args .stored .bits) ≡ 1023
-bits-long entry = search needs
-
-sums-long : (entry : tie.Start) → length (entry .args .stored .sums) ≡ 255
-sums-long entry = search needs
+whole : (entry : tie.Start) → Whole (entry .args .stored)
+whole entry = record { bits = search needs; sums = search needs }
 
 powers-space-requires : tie.Need-powers-space-requires
 powers-space-requires c κs = search needs
@@ -41,12 +38,18 @@ splice-stretch-requires c κs =
       listed = K .of-m .listed;
       are-powers = filled .fill-powers .ensures;
       ends = omega (arith, entry .pre .ends, K .is-n);
-      bits-room = omega (arith, bits-long entry, K .is-n, K .small);
-      sums-room = omega (arith, sums-long entry, K .most);
+      bits-room = omega (arith, whole entry .bits, K .is-n, K .small);
+      sums-room = omega (arith, whole entry .sums, K .most);
     }
 
 returns : tie.Need-returns
-returns c = spliced-parts refl refl (c .before .before .splice-stretch .ensures)
+returns c =
+    let done = c .before .before in
+    let called = done .before in
+    let filled = called .before .before .before .before in
+    let shared = filled .before .before .before .before in
+    let entry = shared .before .before in
+    spliced-parts (entry .pre) (whole entry) refl refl (done .splice-stretch .ensures)
 
 pub spliced-spec : {M : Type 1} → statement M
 spliced-spec =

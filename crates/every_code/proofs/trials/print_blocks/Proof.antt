@@ -1,6 +1,6 @@
 -- Each turn passes a block.
 use Prim.Native.Nat.{_-_, _≤_}
-use Rattle.codes.specs.Look.{Known}
+use Rattle.codes.specs.Work.{Known}
 use borrow.Author.Needs.{needs}
 use Rattle.every_code.proofs.trials.print_blocks.Statement.{statement}
 use Rattle.every_code.proofs.trials.print_blocks.Tie as tie
