@@ -18,7 +18,7 @@ use Rattle.bits.proofs.BitLaws.{length-flip, flipped-nil, flipped-cons, padded-
 use Rattle.field.specs.Sum.{_⊕_}
 use Rattle.field.specs.Product.{IsField, _⊗⟨_⟩_}
 use Rattle.field.specs.Power.{a, nOf, power}
-use Rattle.field.proofs.SumLaws.{xor-sum, sum, sum-zero, zero-sum, sum-bound, sum-assoc}
+use Rattle.field.proofs.SumLaws.{xor-sum, sum-zero, zero-sum, sum-bound, sum-assoc}
 use Rattle.field.proofs.ProductLaws.{product, product-zero, zero-product, one-product, product-one, product-bound, product-over, square-sum, product-rearrange}
 use Rattle.field.proofs.PowerLaws.{power-zero, power-add, power-bound, power-one, power-even, one-bound, zero-power}
 use Rattle.field.proofs.Order.{power-mod}

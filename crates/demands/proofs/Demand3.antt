@@ -48,7 +48,7 @@ abbrev pub kept-word : Kept → List ℕ
 kept-word stored = take (nOf (stored .m)) (stored .bits)
 
 -- a listed code, n bits, and the first t sums are theirs
-pub record Faithful (stored : Kept) : Type 0 where
+record Faithful (stored : Kept) : Type 0 where
   pub known : Known (keptCode stored)
   pub whole : Whole stored
   pub bits : AreBits (kept-word stored)
@@ -164,7 +164,7 @@ module _ {stored : Kept} (F : Faithful stored) (lentWord lentList : List ℕ) wh
         };
       }
 
-  pub faithful-decodes : {x y : Decoded} {word list word′ list′ : List ℕ} → DecodesKept stored lentWord lentList x word list
+  faithful-decodes : {x y : Decoded} {word list word′ list′ : List ℕ} → DecodesKept stored lentWord lentList x word list
       → Decodes (stored .m) (stored .t) (kept-word stored) lentWord lentList y word′ list′ → (x ≡ y) × (word ≡ word′) × (list ≡ list′)
   faithful-decodes p q = decode-one (decodes-kept p) q
 

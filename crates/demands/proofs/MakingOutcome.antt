@@ -1,13 +1,12 @@
 -- Making frames of typed lines leaves one outcome, and it does not depend on the pieces in which the text comes.
-use mathlib.Core.Path.{_≡_, _∙_, refl, sym, ap, ap₂, subst}
+use mathlib.Core.Path.{_≡_, _∙_, refl, sym, ap₂, subst}
 use mathlib.Core.List.{List, [], _++_}
 use Prim.Native.Nat.{ℕ, _+_}
 use native.Mathlib.Omega.{arith}
-use lib.ListN.{length, take, drop}
-use lib.Seq.{take-at}
+use lib.ListN.{length}
 use Rattle.layout.specs.declared.message.Reading.{Reading}
 use Rattle.frame.specs.Make.{Made}
-use Rattle.line.specs.Line.{Writes}
+use Rattle.line.proofs.LineLaws.{writes-front}
 use Rattle.typed.proofs.LineLaws.{says-one}
 use Rattle.maker.specs.declared.Progress.{Progress}
 use Rattle.maker.specs.Making.{linesOf, begunOf, lastOf, allLines, Gives, a-frame, a-name, GiveAll, none, more, Holds, Takes}
@@ -15,7 +14,7 @@ use Rattle.maker.proofs.LinesLaws.{give-append, takes-none, takes-then}
 use Rattle.demands.specs.Words.{joined, MakingSteps, stands, goes-on, Begins, MakingRun, whole}
 use Rattle.demands.proofs.FrameOutcome.{made-one}
 
-pub gives-one : {number : ℕ} {line frames names frames′ names′ : List ℕ} → Gives number line frames names → Gives number line frames′ names′
+gives-one : {number : ℕ} {line frames names frames′ names′ : List ℕ} → Gives number line frames names → Gives number line frames′ names′
     → (frames ≡ frames′) × (names ≡ names′)
 gives-one {frames′ = frames′} (a-frame r s m e) (a-frame r′ s′ m′ e′) =
     (made-one m (subst (λ (x : Reading). Made x frames′) (says-one r′ r s′ s) m′), e ∙ sym e′)
@@ -33,15 +32,12 @@ give-all-one (more g r) (more h s) =
 
 -- the run
 
-front : {text lent left : List ℕ} {n : ℕ} → Writes text lent left n → take n left ≡ text
-front {text} {lent} {n = n} w = ap (take n) (w .is) ∙ take-at text (drop (length text) lent) n (sym (w .long))
-
 run-takes : {at after : Progress} {line line′ : List ℕ} {pieces : List (List ℕ)} {frames names : List ℕ} (begun : List ℕ) → Holds line (at .held) begun
     → MakingSteps at line pieces after line′ frames names → Takes (at .lines) begun (joined pieces) frames names after line′
 run-takes {at} begun o stands = takes-none at o
 run-takes begun o (goes-on {piece = piece} f r) =
     let t = f .takes begun o in
-    rw (front (f .writes-frames), front (f .writes-names)) (takes-then t (run-takes (begunOf begun piece) (t .holds) r))
+    rw (writes-front (f .writes-frames), writes-front (f .writes-names)) (takes-then t (run-takes (begunOf begun piece) (t .holds) r))
 
 from-nothing : {at after : Progress} {line line′ : List ℕ} {pieces : List (List ℕ)} {frames names : List ℕ} → Begins at
     → MakingSteps at line pieces after line′ frames names → Takes 0 [] (joined pieces) frames names after line′
@@ -60,7 +56,7 @@ run-gives {pieces} (whole {mid = mid} b r f) =
     let t = from-nothing b r in
     let e : mid .lines + 1 ≡ 1 + length (linesOf [] (joined pieces)) = omega (arith, t .counts) in
     let last = subst (λ (n : ℕ). GiveAll n (lastOf (begunOf [] (joined pieces))) (f .frames) (f .names)) e (f .gives _ (t .holds)) in
-    rw (front (f .writes-frames), front (f .writes-names)) (give-append (t .gives) last)
+    rw (writes-front (f .writes-frames), writes-front (f .writes-names)) (give-append (t .gives) last)
 
 -- two runs over one text, however it comes in pieces, write the same
 pub run-one : {pieces pieces′ : List (List ℕ)} {frames names frames′ names′ : List ℕ} → MakingRun pieces frames names → MakingRun pieces′ frames′ names′

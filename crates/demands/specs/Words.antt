@@ -52,7 +52,7 @@ One {A} Allowed = (x y : A) → Allowed x → Allowed y → x ≡ y
 
 -- a refusal is what the checks come to, or they pass and what follows them refuses
 abbrev pub RefusedBy : Outcome → Refusal → Type 0 → Type 0
-RefusedBy checked r After = (checked ≡ Refused r) ⊎ ((checked ≡ Done) × After)
+RefusedBy checked r Later = (checked ≡ Refused r) ⊎ ((checked ≡ Done) × Later)
 
 -- a code word is within 23 of what came in, and its lead refuses
 abbrev pub NearLead : List ℕ → Refusal → Type 0

@@ -1,13 +1,15 @@
 -- The degree of a polynomial over bits: what stands above the top can be cut off, and degrees add up in a product.
 use mathlib.Core.Path.{_≡_, _∙_, refl, sym, ap, ap₂}
+use mathlib.Core.Logic.{_⊎_, inl, inr}
 use mathlib.Core.List.{List, [], _∷_}
 use Prim.Native.Nat.{ℕ, zero, suc, _+_, _*_, _≤_, _<_}
 use native.Mathlib.Nat.{mul-zero, zero-mul, zero-add, suc-add}
-use native.Mathlib.Decide.{decLt}
+use native.Mathlib.Decide.{decLt, ℕ-discrete}
 use native.Mathlib.Omega.{arith}
 use lib.Bits.{bitXor}
 use lib.ListN.{length, getD, take, List·getD-eq-default}
 use lib.Seq.{length-take-le, getD-take}
+use Rattle.bits.specs.Bits.{AreBits}
 use Rattle.bits.specs.Polynomial.{productBits}
 use Rattle.bits.proofs.BitLaws.{product-place, product-nil, zeros-at}
 
@@ -21,6 +23,20 @@ degree-of-one = record { top = refl; above = above }
     above : (i : ℕ) → 0 < i → getD {A = ℕ} (1 ∷ []) i 0 ≡ 0
     above zero h = absurd (omega arith)
     above (suc i) h = refl
+
+-- what is 0 from some place on is 0, or of some degree
+pub zero-or-degree : (b : ℕ) (p : List ℕ) → AreBits p → ((i : ℕ) → b ≤ i → getD p i 0 ≡ 0) → ((i : ℕ) → getD p i 0 ≡ 0) ⊎ ((d : ℕ) × HasDegree d p)
+zero-or-degree zero p B z = inl (λ i. z i (omega arith))
+zero-or-degree (suc b) p B z = pick (ℕ-discrete (getD p b 0) 0) (zero-or-degree b p B)
+  where
+    place : getD p b 0 ≡ 0 → (i : ℕ) → b ≤ i → Dec (i ≡ b) → getD p i 0 ≡ 0
+    place e i l (yes s) = ap (λ (k : ℕ). getD p k 0) s ∙ e
+    place e i l (no s) = z i (omega arith)
+
+    pick : Dec (getD p b 0 ≡ 0) → (((i : ℕ) → b ≤ i → getD p i 0 ≡ 0) → ((i : ℕ) → getD p i 0 ≡ 0) ⊎ ((d : ℕ) × HasDegree d p))
+        → ((i : ℕ) → getD p i 0 ≡ 0) ⊎ ((d : ℕ) × HasDegree d p)
+    pick (yes e) rest = rest (λ i l. place e i l (ℕ-discrete i b))
+    pick (no n) rest = inr (b, record { top = omega (arith, B .at b); above = λ i l. z i (omega arith) })
 
 -- a list with something at place d reaches beyond it
 pub reaches : (p : List ℕ) (d : ℕ) → getD p d 0 ≡ 1 → d + 1 ≤ length p

@@ -2,32 +2,19 @@
 use mathlib.Core.Path.{_≡_, _∙_, ap, ap₂}
 use mathlib.Core.Logic.{_⊎_, inl, inr}
 use mathlib.Core.List.{List, [], _∷_}
-use Prim.Native.Nat.{ℕ, zero, suc, _*_, _≤_, _<_}
+use Prim.Native.Nat.{ℕ, suc, _*_, _≤_, _<_}
 use native.Mathlib.Nat.{mul-zero, one-mul}
-use native.Mathlib.Decide.{decLt, ℕ-discrete}
+use native.Mathlib.Decide.{decLt}
 use native.Mathlib.Omega.{arith}
 use lib.ListN.{length, getD, List·getD-eq-default}
 use Rattle.bits.specs.Bits.{AreBits}
 use Rattle.bits.specs.Polynomial.{productBits}
 use Rattle.field.specs.Sum.{_⊕_}
 use Rattle.field.proofs.SumLaws.{zero-sum}
-use Rattle.generator.proofs.Degrees.{HasDegree, product-none, zero-before, product-degree}
+use Rattle.generator.proofs.Degrees.{HasDegree, zero-or-degree, product-none, zero-before, product-degree}
 use Rattle.generator.proofs.ProductPlaces as Places
 
 -- 0, or of some degree
-zero-or-degree : (b : ℕ) (p : List ℕ) → AreBits p → ((i : ℕ) → b ≤ i → getD p i 0 ≡ 0) → ((i : ℕ) → getD p i 0 ≡ 0) ⊎ ((d : ℕ) × HasDegree d p)
-zero-or-degree zero p B z = inl (λ i. z i (omega arith))
-zero-or-degree (suc b) p B z = pick (ℕ-discrete (getD p b 0) 0) (zero-or-degree b p B)
-  where
-    place : getD p b 0 ≡ 0 → (i : ℕ) → b ≤ i → Dec (i ≡ b) → getD p i 0 ≡ 0
-    place e i l (yes s) = ap (λ (k : ℕ). getD p k 0) s ∙ e
-    place e i l (no s) = z i (omega arith)
-
-    pick : Dec (getD p b 0 ≡ 0) → (((i : ℕ) → b ≤ i → getD p i 0 ≡ 0) → ((i : ℕ) → getD p i 0 ≡ 0) ⊎ ((d : ℕ) × HasDegree d p))
-        → ((i : ℕ) → getD p i 0 ≡ 0) ⊎ ((d : ℕ) × HasDegree d p)
-    pick (yes e) rest = rest (λ i l. place e i l (ℕ-discrete i b))
-    pick (no n) rest = inr (b, record { top = omega (arith, B .at b); above = λ i l. z i (omega arith) })
-
 of-some-degree : (p : List ℕ) → AreBits p → ((i : ℕ) → getD p i 0 ≡ 0) ⊎ ((d : ℕ) × HasDegree d p)
 of-some-degree p B = zero-or-degree (length p) p B (λ i l. List·getD-eq-default p 0 {n = i} l)
 

@@ -1,8 +1,9 @@
 -- There is exactly one minimal polynomial of each power of a, and it divides exactly the polynomials that have that root.
 use mathlib.Core.Path.{_≡_, _∙_, refl, sym, ap, ap₂, subst}
+use mathlib.Core.Logic.{_⊎_, inl, inr}
 use mathlib.Core.List.{List, [], _∷_, _++_}
 use Prim.Native.Nat.{ℕ, zero, suc, _+_, _-_, _*_, _≤_, _<_}
-use native.Mathlib.Decide.{decLe, ℕ-discrete}
+use native.Mathlib.Decide.{decLe, decLt, ℕ-discrete}
 use native.Mathlib.Omega.{arith}
 use lib.ListN.{length, getD, take, replicate, length-append, length-replicate, List·getD-eq-default}
 use lib.Seq.{ext-getD, getD-at}
@@ -19,7 +20,7 @@ use Rattle.field.proofs.Order.{eight-bound, power-rounds}
 use Rattle.codes.specs.Sums.{sumOf}
 use Rattle.codes.proofs.SumLaws.{added-place, sum-same, sum-zeros, sum-cons, sum-append, sum-added, sum-one}
 use Rattle.generator.specs.Minimal.{Minimal}
-use Rattle.generator.proofs.Degrees.{HasDegree, cut-long, cut-at}
+use Rattle.generator.proofs.Degrees.{HasDegree, zero-or-degree, cut-long, cut-at}
 use Rattle.generator.proofs.Multiple.{divided, left-root, none-left}
 
 pub minimal-above : {m i d : ℕ} {p : List ℕ} → Minimal m i d p → (j : ℕ) → d < j → getD p j 0 ≡ 0
@@ -178,28 +179,26 @@ rooted-n {m} L i =
 -- where no degree below b has the root, nothing below place b has it but 0
 all-zero : (m i b : ℕ) (q : List ℕ) → AreBits q → ((e : ℕ) → e < b → Rooted m i e → ⊥) → ((j : ℕ) → b ≤ j → getD q j 0 ≡ 0) → sumOf m i q ≡ 0
     → (j : ℕ) → getD q j 0 ≡ 0
-all-zero m i zero q c f z h = λ j. z j (omega arith)
-all-zero m i (suc b) q c f z h = pick (ℕ-discrete (getD q b 0) 0) (all-zero m i b q c (λ e l. f e (omega arith)))
+all-zero m i b q c f z h = pick (zero-or-degree b q c z)
   where
-    place : getD q b 0 ≡ 0 → (j : ℕ) → b ≤ j → Dec (j ≡ b) → getD q j 0 ≡ 0
-    place e j l (yes s) = ap (λ (k : ℕ). getD q k 0) s ∙ e
-    place e j l (no s) = z j (omega arith)
+    below : {d : ℕ} → HasDegree d q → Dec (d < b) → d < b
+    below D (yes l) = l
+    below {d} D (no n) = absurd (omega (arith, D .top, z d (omega arith)))
 
-    found : getD q b 0 ≡ 1 → Rooted m i b
-    found one =
-        let D : HasDegree b q = record { top = one; above = λ j l. z j (omega arith) } in
+    rooted : {d : ℕ} → HasDegree d q → Rooted m i d
+    rooted {d} D =
         record {
           some = record {
-            list = take (b + 1) q;
+            list = take (d + 1) q;
             long = cut-long D;
-            bits = bits-take (b + 1) c;
-            has = (cut-at D b ∙ one, sum-same m i (take (b + 1) q) q (cut-at D) ∙ h);
+            bits = bits-take (d + 1) c;
+            has = (cut-at D d ∙ D .top, sum-same m i (take (d + 1) q) q (cut-at D) ∙ h);
           };
         }
 
-    pick : Dec (getD q b 0 ≡ 0) → (((j : ℕ) → b ≤ j → getD q j 0 ≡ 0) → sumOf m i q ≡ 0 → (j : ℕ) → getD q j 0 ≡ 0) → (j : ℕ) → getD q j 0 ≡ 0
-    pick (yes e) rest = rest (λ j l. place e j l (ℕ-discrete j b)) h
-    pick (no n) rest = absurd (f b (omega arith) (found (omega (arith, c .at b))))
+    pick : ((j : ℕ) → getD q j 0 ≡ 0) ⊎ ((d : ℕ) × HasDegree d q) → (j : ℕ) → getD q j 0 ≡ 0
+    pick (inl none) = none
+    pick (inr (d, D)) = absurd (f d (below D (decLt d b)) (rooted D))
 
 -- every power of a has a minimal polynomial
 pub minimal-is : {m : ℕ} → IsField m → (i : ℕ) → (d : ℕ) × (p : List ℕ) × Minimal m i d p

@@ -6,8 +6,9 @@ use native.Mathlib.Decide.{decLt}
 use native.Mathlib.Nat.{add-zero, add-suc, suc-add, pow-succ', zero-add}
 use native.Mathlib.Omega.{arith}
 use borrow.Author.Tests.{lt-ltb, le-ltb}
-use lib.ListN.{length, take, drop, set, length-append}
-use lib.Seq.{sets, sets-eq, paste, take-length}
+use borrow.Rule.Slice.PartMut.{putMid}
+use lib.ListN.{length, take, drop, set, length-append, length-drop, take-append-drop}
+use lib.Seq.{sets, sets-eq, paste, take-at, take-length, drop-drop, drop-append-le, length-take-le}
 use Rattle.sheet.specs.declared.Refusal.{Refusal}
 use Rattle.sheet.specs.Number.{numberOf}
 use Rattle.line.specs.Line.{digitsUpTo, decimal, readText, refusedText, space, newline, readLine, refusedLine, Writes}
@@ -70,6 +71,9 @@ sets-append l i (a ∷ s) t =
 pub put-one : (l : List ℕ) (at v : ℕ) → Put l at (v ∷ []) (set l at v) (at + 1)
 put-one l at v = record { is = refl; next-is = refl }
 
+pub put-nothing : (l : List ℕ) {at next : ℕ} → next ≡ at → Put l at [] l next
+put-nothing l e = record { is = refl; next-is = omega arith }
+
 pub put-then : {l m r s t : List ℕ} {at i j : ℕ} → Put l at s m i → Put m i t r j → Put l at (s ++ t) r j
 put-then {l} {s = s} {t} {at} p q =
     record {
@@ -86,6 +90,35 @@ put-line {l} {line} p h =
     record {
       is = p .is ∙ sets-eq line l 0 (omega (arith, p .next-is)) ∙ ap (λ (k : ℕ). line ++ drop k l) (zero-add (length line));
       long = p .next-is ∙ zero-add (length line);
+    }
+
+-- a text that is written fits in its buffer, and is its front
+
+pub writes-fits : {text lent left : List ℕ} {count : ℕ} → Writes text lent left count → count ≤ length left
+writes-fits {text} {lent} w = omega (arith, w .long, ap length (w .is) ∙ length-append text (drop (length text) lent))
+
+pub writes-front : {text lent left : List ℕ} {count : ℕ} → Writes text lent left count → take count left ≡ text
+writes-front {text} {lent} {count = count} w = ap (take count) (w .is) ∙ take-at text (drop (length text) lent) count (sym (w .long))
+
+-- a text at the front of a part of the buffer is stored there
+pub part-put : {text part : List ℕ} {long : ℕ} (lent : List ℕ) (at room : ℕ) → at + room ≤ length lent → length part ≡ length (take room (drop at lent))
+    → Writes text (take room (drop at lent)) part long → Put lent at text (putMid at room lent part) (at + long)
+part-put {text} {part} lent at room h l w =
+    let rest = drop at lent in
+    let whole : length (take room rest) ≡ room = length-take-le room rest (omega (arith, length-drop at lent)) in
+    let fits : length text ≤ room = omega (arith, writes-fits w, w .long) in
+    let after : drop (length text) (take room rest) ++ drop room rest ≡ drop (at + length text) lent =
+    sym (drop-append-le (length text) (take room rest) (drop room rest) (omega arith))
+    ∙ ap (drop (length text)) (take-append-drop room rest)
+    ∙ drop-drop (length text) at lent in
+    record {
+      is =
+          ap (λ (x : List ℕ). take at lent ++ (x ++ drop room rest)) (w .is)
+          ∙ ap (λ (x : List ℕ). take at lent ++ x) (append-assoc text (drop (length text) (take room rest)) (drop room rest))
+          ∙ ap (λ (x : List ℕ). take at lent ++ (text ++ x)) after
+          ∙ sym (append-assoc (take at lent) text (drop (at + length text) lent))
+          ∙ sym (sets-eq text lent at (omega arith));
+      next-is = ap (λ (x : ℕ). at + x) (w .long);
     }
 
 -- the fields of a line one after another

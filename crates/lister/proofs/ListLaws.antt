@@ -1,29 +1,24 @@
 -- Frames of bytes, lines stored one after another, and what is held between two reads.
 use mathlib.Core.Path.{_≡_, _∙_, refl, sym, ap, subst}
-use mathlib.Core.List.{List, [], _++_, append-assoc}
+use mathlib.Core.List.{List, [], _++_}
 use Prim.Native.Nat.{ℕ, suc, _+_, _-_, _*_, _/_, _≤_, _<_, min}
 use native.Mathlib.Decide.{decLt}
 use native.Mathlib.Nat.{add-zero, add-comm}
 use native.Mathlib.Numerals.{add-one}
 use native.Mathlib.Omega.{arith}
 use borrow.Rule.Slice.PartMut.{putMid}
-use lib.ListN.{length, take, drop, getD, set, length-append, length-drop, length-take, take-append-drop}
-use lib.Seq.{sets-eq, set-at, append-snoc, take-suc, take-all, take-at, take-add, drop-cons, drop-at, drop-drop, drop-append-le}
+use lib.ListN.{length, take, drop, getD, set, length-drop, length-take}
+use lib.Seq.{set-at, append-snoc, take-suc, take-all, take-at, take-add, drop-cons, drop-at}
 use lib.Seq.{getD-drop, getD-append-add, length-take-le, length-sets}
 use Rattle.frame.specs.declared.reading.ReadFrame.{ReadFrame}
 use Rattle.frame.specs.Read.{Reads}
 use Rattle.line.specs.Line.{lineOf, Writes}
-use Rattle.line.specs.Work.{Put}
-use Rattle.line.proofs.LineLaws.{put-then, put-line}
+use Rattle.line.proofs.LineLaws.{put-nothing, put-then, put-line, writes-fits, part-put}
 use Rattle.lister.specs.declared.Progress.{Progress}
 use Rattle.input.specs.declared.Came.{Came}
 use Rattle.input.specs.Reads.{ReadsAfter}
 use Rattle.lister.specs.Listing.{frameAt, no-line, one-more, ListsFirst, start, step, TakesIn}
 use Rattle.lister.specs.Work.{Room, Going, AddsLine, ListedTo, movedFront}
-
--- a text that is written fits in its buffer
-pub text-fits : {text lent left : List ℕ} {count : ℕ} → Writes text lent left count → count ≤ length left
-text-fits {text} {lent} w = omega (arith, w .long, ap length (w .is) ∙ length-append text (drop (length text) lent))
 
 -- the bytes from a frame's start to its end, or to theirs, are the frame
 pub frame-part : (bytes : List ℕ) (from to : ℕ) → from ≤ length bytes → to ≡ min (from + 32) (length bytes)
@@ -36,27 +31,6 @@ frame-part bytes from to h e = pick (decLt (from + 32) (length bytes))
         let d = length-drop from bytes in
         take-all (to - from) (drop from bytes) (omega arith) ∙ sym (take-all 32 (drop from bytes) (omega arith))
 
--- a text at the front of a part of the buffer is stored there
-pub part-put : {text part : List ℕ} {long : ℕ} (lent : List ℕ) (at room : ℕ) → at + room ≤ length lent → length part ≡ length (take room (drop at lent))
-    → Writes text (take room (drop at lent)) part long → Put lent at text (putMid at room lent part) (at + long)
-part-put {text} {part} lent at room h l w =
-    let rest = drop at lent in
-    let whole : length (take room rest) ≡ room = length-take-le room rest (omega (arith, length-drop at lent)) in
-    let fits : length text ≤ room = omega (arith, text-fits w, w .long) in
-    let after : drop (length text) (take room rest) ++ drop room rest ≡ drop (at + length text) lent =
-    sym (drop-append-le (length text) (take room rest) (drop room rest) (omega arith))
-    ∙ ap (drop (length text)) (take-append-drop room rest)
-    ∙ drop-drop (length text) at lent in
-    record {
-      is =
-          ap (λ (x : List ℕ). take at lent ++ (x ++ drop room rest)) (w .is)
-          ∙ ap (λ (x : List ℕ). take at lent ++ x) (append-assoc text (drop (length text) (take room rest)) (drop room rest))
-          ∙ ap (λ (x : List ℕ). take at lent ++ (text ++ x)) after
-          ∙ sym (append-assoc (take at lent) text (drop (at + length text) lent))
-          ∙ sym (sets-eq text lent at (omega arith));
-      next-is = ap (λ (x : ℕ). at + x) (w .long);
-    }
-
 -- the line of what the bytes from a frame's start to its end read as
 pub line-added : {number from to long : ℕ} {part : List ℕ} {answer : ReadFrame} (bytes lent : List ℕ) (end room : ℕ) → from ≤ length bytes
     → to ≡ min (from + 32) (length bytes) → Reads (take (to - from) (drop from bytes)) answer → room ≡ 128 → end + room ≤ length lent
@@ -68,14 +42,14 @@ line-added {number} {from} {to} {answer = answer} bytes lent end room h e r few 
       line = lineOf number answer;
       is-line = record { answer = answer; reads = subst (λ (frame : List ℕ). Reads frame answer) (frame-part bytes from to h e) r; is = refl };
       put = part-put lent end room fits l w;
-      most = omega (arith, text-fits w, length-take room (drop end lent));
+      most = omega (arith, writes-fits w, length-take room (drop end lent));
     }
 
 -- the lines of no frame, of one frame more, of all of them
 
 pub none-listed : (before : ℕ) (bytes lent : List ℕ) → ListedTo before bytes lent lent 0 before 0
 none-listed before bytes lent =
-    record { text = []; lines = no-line; put = record { is = refl; next-is = refl }; number-is = sym (add-zero before); most = omega arith }
+    record { text = []; lines = no-line; put = put-nothing lent refl; number-is = sym (add-zero before); most = omega arith }
 
 pub one-listed : {before i number end next : ℕ} {bytes lent left left′ : List ℕ} → ListedTo before bytes lent left i number end
     → AddsLine (number + 1) (frameAt bytes i) left end left′ next → ListedTo before bytes lent left′ (i + 1) (number + 1) next

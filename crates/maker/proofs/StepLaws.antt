@@ -3,11 +3,9 @@ use mathlib.Core.Path.{_≡_, _∙_, refl, sym, ap, subst}
 use mathlib.Core.List.{List, [], _∷_, _++_}
 use Prim.Native.Nat.{ℕ, _+_, _≤_, _<_}
 use native.Mathlib.Omega.{arith}
-use lib.ListN.{length, take, drop, length-append}
+use lib.ListN.{length, take, length-append}
 use lib.Seq.{length-take-le, length-sets}
-use Rattle.line.specs.Line.{Writes}
-use Rattle.line.specs.Work.{Put}
-use Rattle.line.proofs.LineLaws.{put-then, put-line}
+use Rattle.line.proofs.LineLaws.{put-nothing, put-then, put-line}
 use Rattle.typed.specs.declared.Typed.{Typed}
 use Rattle.typed.specs.Says.{Answers}
 use Rattle.typed.proofs.LineLaws.{front-answers}
@@ -16,9 +14,6 @@ use Rattle.maker.specs.Making.{linesOf, begunOf, lastOf, Gives, GiveAll,
 use Rattle.maker.specs.Work.{Ready, Going, StepReady, emptied, Steps, Keeps}
 use Rattle.maker.proofs.LinesLaws.{line-ends, begun-ends, line-goes-on, begun-goes-on, lines-few, give-one, takes-none, takes-then}
 use Rattle.maker.proofs.KeptLaws.{keeps-front}
-
-pub put-nothing : (l : List ℕ) {at next : ℕ} → next ≡ at → Put l at [] l next
-put-nothing l e = record { is = refl; next-is = omega arith }
 
 pub steps-long : {at next : Progress} {line bytes frames names line′ frames′ names′ : List ℕ} → Steps at line bytes frames names next line′ frames′ names′
     → (length frames′ ≡ length frames) × (length names′ ≡ length names)
@@ -162,10 +157,6 @@ no-line {before} {start} line frames names e h =
         let z : before .held ≡ 0 = sym (ap (λ (p : Progress). p .held) e) ∙ h in
         let same : take 0 line ≡ take 63 (b ∷ bs) = rw z at (o .front) in
         absurd (omega (arith, ap length same))
-
--- what is written ends within the buffer
-pub within : {text lent left : List ℕ} {n : ℕ} → Writes text lent left n → n ≤ length left
-within {text} {lent} w = omega (arith, w .long, ap length (w .is), length-append text (drop (length text) lent))
 
 -- nothing is read yet
 pub going-first : (line : List ℕ) → Going (record { lines = 0; held = 0; frames = 0; names = 0 }) 64000000 line

@@ -2,7 +2,8 @@
 use Prim.Native.Nat.{_+_, _-_}
 use native.Mathlib.Omega.{arith}
 use lib.ListN.{drop, length-take}
-use Rattle.lister.proofs.ListLaws.{text-fits, line-added}
+use Rattle.line.proofs.LineLaws.{writes-fits}
+use Rattle.lister.proofs.ListLaws.{line-added}
 use borrow.Author.Needs.{needs}
 use Rattle.lister.proofs.add_line.Statement.{statement}
 use Rattle.lister.proofs.add_line.Tie as tie
@@ -50,7 +51,7 @@ add-result c =
     let entry = read .before .before .before .before .before in
     let end = entry .args .end in
     let room = length-take (end + 128 - end) (drop end (entry .args .lines .now)) in
-    record { fits = omega (arith, text-fits (written .write-line .ensures), written .write-line .kept .1 .1 .0, room) }
+    record { fits = omega (arith, writes-fits (written .write-line .ensures), written .write-line .kept .1 .1 .0, room) }
 
 same-length : tie.Need-same-length
 same-length c = search needs

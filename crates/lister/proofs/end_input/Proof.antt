@@ -1,7 +1,8 @@
 -- The lines of what is held fit into their buffer.
 use native.Mathlib.Omega.{arith}
 use lib.ListN.{length-take}
-use Rattle.lister.proofs.ListLaws.{text-fits, room-front}
+use Rattle.line.proofs.LineLaws.{writes-fits}
+use Rattle.lister.proofs.ListLaws.{room-front}
 use borrow.Author.Needs.{needs}
 use Rattle.lister.proofs.end_input.Statement.{statement}
 use Rattle.lister.proofs.end_input.Tie as tie
@@ -24,7 +25,7 @@ fill-lines-requires c κs =
     room-front (entry .args .at .held) (entry .pre .0)
 
 write-out-requires : tie.Need-write-out-requires
-write-out-requires c κs = text-fits (c .before .before .before .fill-lines .ensures .written)
+write-out-requires c κs = writes-fits (c .before .before .before .fill-lines .ensures .written)
 
 same-length : tie.Need-same-length
 same-length c = search needs

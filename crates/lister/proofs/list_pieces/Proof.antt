@@ -4,7 +4,8 @@ use native.Mathlib.Omega.{arith}
 use lib.ListN.{length}
 use borrow.Author.Needs.{needs}
 use Rattle.lister.specs.Work.{Going}
-use Rattle.lister.proofs.ListLaws.{text-fits, going-first, going-on}
+use Rattle.line.proofs.LineLaws.{writes-fits}
+use Rattle.lister.proofs.ListLaws.{going-first, going-on}
 use Rattle.lister.proofs.list_pieces.Statement.{statement}
 use Rattle.lister.proofs.list_pieces.Tie as tie
 
@@ -37,7 +38,7 @@ take-in-requires : tie.Need-take-in-requires Inv-loop μ-loop
 take-in-requires c κs = search needs
 
 write-out-requires : tie.Need-write-out-requires Inv-loop μ-loop
-write-out-requires c κs = text-fits (c .before .before .before .before .before .take-in .ensures .written)
+write-out-requires c κs = writes-fits (c .before .before .before .before .before .take-in .ensures .written)
 
 same-length-3 : tie.Need-same-length-3 Inv-loop μ-loop
 same-length-3 c = search needs

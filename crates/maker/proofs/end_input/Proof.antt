@@ -1,6 +1,6 @@
 -- What was filled ends within its buffers.
 use borrow.Author.Needs.{needs}
-use Rattle.maker.proofs.StepLaws.{within}
+use Rattle.line.proofs.LineLaws.{writes-fits}
 use Rattle.maker.proofs.end_input.Statement.{statement}
 use Rattle.maker.proofs.end_input.Tie as tie
 
@@ -20,7 +20,7 @@ write-out-requires : tie.Need-write-out-requires
 write-out-requires c κs =
     let at-frames = c .before .before .before in
     let filled = at-frames .before .before .before .fill-last .ensures in
-    (within (filled .writes-frames), within (filled .writes-names))
+    (writes-fits (filled .writes-frames), writes-fits (filled .writes-names))
 
 same-length : tie.Need-same-length
 same-length c = search needs

@@ -8,7 +8,8 @@ use lib.ListN.{length-take}
 use Rattle.typed.specs.declared.Typed.the-variants.{Said, Nothing}
 use Rattle.typed.specs.Says.{Answers}
 use Rattle.maker.specs.Making.{nameOf, a-frame, a-name}
-use Rattle.maker.proofs.StepLaws.{put-nothing, one-line, line-gives, nothing-held, holds-answers}
+use Rattle.line.proofs.LineLaws.{put-nothing}
+use Rattle.maker.proofs.StepLaws.{one-line, line-gives, nothing-held, holds-answers}
 use Rattle.maker.proofs.end_line.Statement.{statement}
 use Rattle.maker.proofs.end_line.Tie as tie
 

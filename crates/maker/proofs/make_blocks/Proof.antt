@@ -4,7 +4,8 @@ use mathlib.Core.Path.{_≡_}
 use native.Mathlib.Omega.{arith}
 use lib.ListN.{length, length-take}
 use Rattle.maker.specs.Work.{Room, Going}
-use Rattle.maker.proofs.StepLaws.{within, going-first, going-on, going-few}
+use Rattle.line.proofs.LineLaws.{writes-fits}
+use Rattle.maker.proofs.StepLaws.{going-first, going-on, going-few}
 use Rattle.maker.proofs.make_blocks.Statement.{statement}
 use Rattle.maker.proofs.make_blocks.Tie as tie
 
@@ -64,7 +65,7 @@ write-out-requires : tie.Need-write-out-requires Inv-loop μ-loop
 write-out-requires c κs =
     let at-names = c .before .before .before in
     let filled = at-names .before .before .before .before .before .fill-frames .ensures in
-    (within (filled .writes-frames), within (filled .writes-names))
+    (writes-fits (filled .writes-frames), writes-fits (filled .writes-names))
 
 same-length-5 : tie.Need-same-length-5 Inv-loop μ-loop
 same-length-5 c = search needs

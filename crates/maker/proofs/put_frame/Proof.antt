@@ -27,7 +27,7 @@ returns : tie.Need-returns
 returns c =
     let at-make = c .before .before in
     let entry = at-make .before .before .before in
-    frame-put (entry .args .frames .now) (entry .args .at) _ refl (entry .pre) (at-make .make .ensures) refl
+    frame-put (entry .args .frames .now) (entry .args .at) _ refl (entry .pre) (at-make .make .ensures)
 
 pub put-frame-spec : {M : Type 1} → statement M
 put-frame-spec = tie.close (tie.spec add-next sub-make part-make-start part-make-end make-requires same-length returns)
