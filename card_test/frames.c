@@ -75,9 +75,8 @@ static int read_as_expected(const struct read_row *row)
     static struct lent8 frame;
     lend8(&frame, row->frame);
     blentovar_read_answer answer = blentovar_read_frame(frame.places, frame.length);
-    return answer.number == row->number && answer.house == row->house
-        && answer.poll == row->poll && answer.counter == row->counter
-        && answer.wrong == row->wrong && as_expected8(&frame);
+    blentovar_read_answer expected = {row->number, row->house, row->poll, row->counter, row->wrong};
+    return SAME_BYTES(answer, expected) && as_expected8(&frame);
 }
 
 static void check_make(void)

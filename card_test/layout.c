@@ -5,22 +5,28 @@
 
 static_assert(sizeof(size_t) == 8, "places and lengths are 64-bit");
 
-static_assert(offsetof(blentovar_describe_answer, number) == 0, "number");
-static_assert(offsetof(blentovar_describe_answer, n) == 8, "n");
-static_assert(offsetof(blentovar_describe_answer, k) == 16, "k");
+static_assert(offsetof(blentovar_sizes_answer, number) == 0, "number");
+static_assert(offsetof(blentovar_sizes_answer, zero_after_number) == 4, "zero_after_number");
+static_assert(offsetof(blentovar_sizes_answer, n) == 8, "n");
+static_assert(offsetof(blentovar_sizes_answer, k) == 16, "k");
+static_assert(sizeof(blentovar_sizes_answer) == 24, "sizes_answer");
 static_assert(sizeof(blentovar_describe_answer) == 24, "describe_answer");
 
 static_assert(offsetof(blentovar_decode_answer, number) == 0, "number");
+static_assert(offsetof(blentovar_decode_answer, zero_after_number) == 4, "zero_after_number");
 static_assert(offsetof(blentovar_decode_answer, wrong) == 8, "wrong");
 static_assert(sizeof(blentovar_decode_answer) == 16, "decode_answer");
 
 static_assert(offsetof(blentovar_kept, m) == 0, "m");
 static_assert(offsetof(blentovar_kept, t) == 8, "t");
 static_assert(offsetof(blentovar_kept, bits) == 16, "bits");
+static_assert(offsetof(blentovar_kept, zero_after_bits) == 1039, "zero_after_bits");
 static_assert(offsetof(blentovar_kept, sums) == 1040, "sums");
+static_assert(offsetof(blentovar_kept, zero_after_sums) == 1550, "zero_after_sums");
 static_assert(sizeof(blentovar_kept) == 1552, "kept");
 
 static_assert(offsetof(blentovar_kept_answer, number) == 0, "number");
+static_assert(offsetof(blentovar_kept_answer, zero_after_number) == 4, "zero_after_number");
 static_assert(offsetof(blentovar_kept_answer, record) == 8, "record");
 static_assert(sizeof(blentovar_kept_answer) == 1560, "kept_answer");
 

@@ -1,4 +1,4 @@
-/* Describe, Encode, Decode and Edit. Words are of m 4 and t 3 where nothing else is said. */
+/* Sizes, Describe, Encode, Decode and Edit. Words are of m 4 and t 3 where nothing else is said. */
 #include "blentovar.h"
 #include "checks.h"
 #include "lent.h"
@@ -11,6 +11,43 @@
 #define GENERATOR "1*3 0 1*2 0*2 1 0 1"
 
 #define LARGEST ((size_t)-1)
+
+struct sizes_row {
+    size_t m, t;
+    uint32_t number;
+    size_t n, k;
+};
+
+static const struct sizes_row sizes_rows[] = {
+    {3, 1, 0, 7, 4},
+    {4, 1, 0, 15, 11},
+    {4, 2, 0, 15, 7},
+    {4, 3, 0, 15, 5},
+    {8, 23, 0, 255, 99},
+    {10, 255, 0, 1023, 11},
+    {2, 1, 1, 0, 0},
+    {11, 1, 1, 0, 0},
+    {260, 3, 1, 0, 0},
+    {LARGEST, 3, 1, 0, 0},
+    {3, 3, 2, 0, 0},
+    {4, 0, 2, 0, 0},
+    {4, 4, 2, 0, 0},
+    {4, 7, 2, 0, 0},
+    {4, 259, 2, 0, 0},
+    {4, LARGEST, 2, 0, 0},
+    {7, 8, 2, 0, 0},
+    {10, 256, 2, 0, 0},
+    /* two faults */
+    {2, 0, 1, 0, 0},
+    {LARGEST, LARGEST, 1, 0, 0},
+};
+
+static int sizes_as_expected(const struct sizes_row *row)
+{
+    blentovar_sizes_answer answer = blentovar_sizes(row->m, row->t);
+    blentovar_sizes_answer expected = {row->number, 0, row->n, row->k};
+    return SAME_BYTES(answer, expected);
+}
 
 /* Where done is absent the buffer is to be as lent. */
 struct describe_row {
@@ -63,8 +100,8 @@ static int describe_as_expected(const struct describe_row *row)
     }
     blentovar_describe_answer answer =
         blentovar_describe(row->m, row->t, generator.places, generator.length);
-    return answer.number == row->number && answer.n == row->n && answer.k == row->k
-        && as_expected8(&generator);
+    blentovar_describe_answer expected = {row->number, 0, row->n, row->k};
+    return SAME_BYTES(answer, expected) && as_expected8(&generator);
 }
 
 static uint8_t before(const uint8_t *coefficients, size_t i, size_t back)
@@ -90,8 +127,8 @@ static int largest_as_expected(void)
     put_largest_generator(generator.expected + GUARD);
     blentovar_describe_answer answer =
         blentovar_describe(10, 255, generator.places, generator.length);
-    return answer.number == BLENTOVAR_DONE && answer.n == 1023 && answer.k == 11
-        && as_expected8(&generator);
+    blentovar_describe_answer expected = {BLENTOVAR_DONE, 0, 1023, 11};
+    return SAME_BYTES(answer, expected) && as_expected8(&generator);
 }
 
 struct encode_row {
@@ -204,7 +241,8 @@ static int decode_as_expected(const struct decode_row *row)
     blentovar_decode_answer answer =
         blentovar_decode(row->m, row->t, received.places, received.length,
                          word.places, word.length, list.places, list.length);
-    return answer.number == row->number && answer.wrong == row->wrong
+    blentovar_decode_answer expected = {row->number, 0, row->wrong};
+    return SAME_BYTES(answer, expected)
         && as_expected8(&received) && as_expected8(&word) && as_expected16(&list);
 }
 
@@ -268,6 +306,13 @@ static int edit_as_expected(const struct edit_row *row)
     return number == row->number && as_expected8(&word) && as_expected8(&stretch);
 }
 
+static void check_sizes(void)
+{
+    for (size_t i = 0; i < sizeof sizes_rows / sizeof *sizes_rows; i++) {
+        report("sizes", i, sizes_as_expected(&sizes_rows[i]));
+    }
+}
+
 static void check_describe(void)
 {
     for (size_t i = 0; i < sizeof describe_rows / sizeof *describe_rows; i++) {
@@ -299,6 +344,7 @@ static void check_edit(void)
 
 void check_whole_words(void)
 {
+    check_sizes();
     check_describe();
     check_encode();
     check_decode();

@@ -1,4 +1,5 @@
-/* The operations of Blentovar for C and C++: link target/staticlib/libblentovar.a.
+/* The operations of Blentovar for C11 and C++17. docs/INTEGRATING.md says how to
+ * build the library libblentovar.a and link it, and has a whole example.
  *
  * Bits are lent one to a byte, 0 or 1, except in frames. Place i of a word is
  * the coefficient of x^i. The code of (m, t) has n = 2^m - 1 places, k of them
@@ -9,11 +10,15 @@
  * with length 0. Buffers lent to one call must not overlap. What an output
  * buffer held before is never looked at.
  *
- * Every function answers a number of the sheet below, BLENTOVAR_DONE or the
- * first check of its order that refuses. After a refusal no lent buffer has
- * changed, and every number beside the refusal is 0. Nothing is kept between
- * calls, nothing is allocated, and there is no state: calls may run at the
- * same time.
+ * Every function answers a number of the sheet below: BLENTOVAR_DONE, or the
+ * number of the first check in its order that refuses. After a refusal no lent
+ * buffer has changed, and every number beside the refusal is 0. Nothing is kept
+ * between calls, nothing is allocated, and there is no state: calls may run at
+ * the same time.
+ *
+ * The structs have no padding. Where a compiler would put some, there is a field
+ * whose name begins with zero_: it is 0 in everything that comes back, and it is
+ * not looked at in a record that is handed in.
  */
 #ifndef BLENTOVAR_H
 #define BLENTOVAR_H
@@ -24,6 +29,12 @@
 #ifdef __cplusplus
 extern "C" {
 #endif
+
+/* The version of this header and of the library that goes with it, and the
+ * same as one number: 10,000 times the first part, 100 times the second, and
+ * the third. */
+#define BLENTOVAR_VERSION "0.2.0"
+#define BLENTOVAR_VERSION_NUMBER 200
 
 /* The sheet. */
 enum {
@@ -63,14 +74,20 @@ enum {
     BLENTOVAR_FRAME_BYTES = 32
 };
 
-typedef struct blentovar_describe_answer {
+/* The sizes of a code: the places of a word, and those of a message. */
+typedef struct blentovar_sizes_answer {
     uint32_t number;
+    uint32_t zero_after_number;
     size_t n;
     size_t k;
-} blentovar_describe_answer;
+} blentovar_sizes_answer;
+
+/* Describe answers the same. */
+typedef blentovar_sizes_answer blentovar_describe_answer;
 
 typedef struct blentovar_decode_answer {
     uint32_t number;
+    uint32_t zero_after_number;
     size_t wrong;
 } blentovar_decode_answer;
 
@@ -81,11 +98,14 @@ typedef struct blentovar_kept {
     size_t m;
     size_t t;
     uint8_t bits[BLENTOVAR_BITS];
+    uint8_t zero_after_bits;
     uint16_t sums[BLENTOVAR_SUMS];
+    uint16_t zero_after_sums;
 } blentovar_kept;
 
 typedef struct blentovar_kept_answer {
     uint32_t number;
+    uint32_t zero_after_number;
     blentovar_kept record;
 } blentovar_kept_answer;
 
@@ -96,6 +116,12 @@ typedef struct blentovar_read_answer {
     uint64_t counter;
     size_t wrong;
 } blentovar_read_answer;
+
+/* The sizes of the code of (m, t), by which the buffers of the other functions
+ * are made.
+ * Checks: 1, 2.
+ * Answers the number, n and k; refused, n and k are 0. */
+blentovar_sizes_answer blentovar_sizes(size_t m, size_t t);
 
 /* The code of (m, t).
  * generator: n - k + 1 places, written; place i is its coefficient of x^i.

@@ -5,6 +5,11 @@ static uint8_t word[1023];
 static uint8_t generator[1024];
 static uint16_t list[255];
 
+uint32_t call_sizes(const struct measured_case *c, struct input *in) {
+    (void)in;
+    return blentovar_sizes(c->code->m, c->code->t).number;
+}
+
 uint32_t call_describe(const struct measured_case *c, struct input *in) {
     (void)in;
     return blentovar_describe(c->code->m, c->code->t, generator, c->code->n - c->code->k + 1).number;

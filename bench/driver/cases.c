@@ -117,7 +117,15 @@ static void decodes(measure *measure, const struct code *code) {
     run_case(measure, random);
 }
 
+// Sizes looks at no word and so uses none up: the other calls keep their words, and their numbers can be compared with those from before there was Sizes.
+static void sizes(measure *measure, const struct code *code) {
+    uint64_t before = state;
+    plain(measure, code, "Sizes", call_sizes);
+    state = before;
+}
+
 static void each_of_code(measure *measure, const struct code *code) {
+    sizes(measure, code);
     plain(measure, code, "Describe", call_describe);
     plain(measure, code, "Encode", call_encode);
     decodes(measure, code);

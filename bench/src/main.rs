@@ -1,9 +1,14 @@
-//! Prints what the driver measured as tables; with --write, puts them into the pages and draws the chart.
+//! Prints what the driver measured as tables; with --write, puts them into the pages and draws the chart of what then stands there; with --chart, only draws it.
 
+mod axis;
 mod chart;
+mod drawing;
 mod measured;
 mod names;
 mod page;
+mod shapes;
+mod spread;
+mod spread_table;
 mod tables;
 
 use measured::Line;
@@ -28,14 +33,22 @@ const SHARED_OUT: [(&str, &str); 8] = [
 
 fn main() {
     let words: Vec<String> = std::env::args().skip(1).collect();
-    let (measured, names, writes) = match &words[..] {
-        [measured, names] => (measured, names, false),
-        [measured, names, word] if word == "--write" => (measured, names, true),
+    let words: Vec<&str> = words.iter().map(String::as_str).collect();
+    match words[..] {
+        ["--chart"] => draw_chart(),
+        [measured, names] => report(measured, names, false),
+        [measured, names, "--write"] => {
+            report(measured, names, true);
+            draw_chart();
+        }
         _ => {
-            eprintln!("usage: bench MEASURED NAMES [--write]");
+            eprintln!("usage: bench MEASURED NAMES [--write], or bench --chart");
             std::process::exit(2);
         }
-    };
+    }
+}
+
+fn report(measured: &str, names: &str, writes: bool) {
     let lines = measured::parse(&read(measured));
     let names = Names::parse(&read(names));
     for (page, name, block) in blocks(&lines, &names) {
@@ -45,9 +58,10 @@ fn main() {
             write(page, &changed.expect("the page has the block"));
         }
     }
-    if writes {
-        write(CHART, &chart_of(&lines));
-    }
+}
+
+fn draw_chart() {
+    write(CHART, &chart::of_page(&read(SPEED_PAGE)));
 }
 
 /// The page, the name and the text of each block that could be measured.
@@ -73,25 +87,6 @@ fn of<'a>(lines: &'a [Line], measure: &str) -> Vec<&'a Line> {
         .iter()
         .filter(|line| line.measure == measure)
         .collect()
-}
-
-/// Times where there are any, else instructions.
-fn chart_of(lines: &[Line]) -> String {
-    let times = of(lines, "ns");
-    if times.is_empty() {
-        let subtitle =
-            "x86-64 instructions a call, the middle of up to three made-up words; logarithmic axis";
-        return chart::svg(
-            &of(lines, "instructions"),
-            "Instructions of each call",
-            subtitle,
-        );
-    }
-    let subtitle = format!(
-        "ns a call, the middle of 15 runs; logarithmic axis; {}",
-        processor()
-    );
-    chart::svg(&times, "Time of each call", &subtitle)
 }
 
 /// The processor's kind and how many cores there are.

@@ -1,5 +1,7 @@
 //! The lines that the driver prints.
 
+use crate::spread::Spread;
+
 /// One case measured in one way; for instructions also how often each address was met.
 #[derive(Debug, PartialEq)]
 pub struct Line {
@@ -7,9 +9,7 @@ pub struct Line {
     pub code: String,
     pub operation: String,
     pub call: String,
-    pub least: u64,
-    pub middle: u64,
-    pub greatest: u64,
+    pub spread: Spread,
     pub stops: Vec<(u64, u64)>,
 }
 
@@ -28,9 +28,11 @@ pub fn parse(text: &str) -> Vec<Line> {
                 code: code.to_string(),
                 operation: operation.to_string(),
                 call: call.to_string(),
-                least: number(least),
-                middle: number(middle),
-                greatest: number(greatest),
+                spread: Spread {
+                    least: number(least),
+                    middle: number(middle),
+                    greatest: number(greatest),
+                },
                 stops: Vec::new(),
             }),
             _ => panic!("not a line of the driver: {row}"),
@@ -79,8 +81,8 @@ mod tests {
         assert_eq!(lines.len(), 2);
         assert!(lines[0].stops.is_empty());
         assert_eq!(lines[1].stops, [(0x40a, 5)]);
-        let spread = (lines[1].least, lines[1].middle, lines[1].greatest);
-        assert_eq!(spread, (7, 8, 9));
+        let spread = &lines[1].spread;
+        assert_eq!((spread.least, spread.middle, spread.greatest), (7, 8, 9));
     }
 
     #[test]

@@ -2,20 +2,14 @@
 
 use crate::measured::{calls, in_order, Line};
 use crate::names::{Names, CALLER};
+use crate::spread::grouped;
 use std::collections::BTreeMap;
 
-/// Rows are calls and columns are codes; a cell has the middle, and the least and the greatest where they differ.
+/// Rows are calls and columns are codes; a cell has the spread.
 pub fn spread(lines: &[&Line]) -> String {
-    let cell = |line: &&Line| match line.least == line.greatest {
-        true => grouped(line.middle),
-        false => {
-            let (least, greatest) = (grouped(line.least), grouped(line.greatest));
-            format!("{} ({least} to {greatest})", grouped(line.middle))
-        }
-    };
     let find = |row: &str, code: &str| {
         let mut of_cell = lines.iter().filter(|l| l.call == row && l.code == code);
-        of_cell.next().map(cell)
+        of_cell.next().map(|line| line.spread.to_cell())
     };
     by_code(lines, &calls(lines), find)
 }
@@ -26,7 +20,7 @@ pub fn greatest(lines: &[&Line]) -> String {
         let of_cell = lines
             .iter()
             .filter(|l| l.operation == row && l.code == code);
-        of_cell.map(|line| line.greatest).max().map(grouped)
+        of_cell.map(|line| line.spread.greatest).max().map(grouped)
     };
     by_code(lines, &in_order(lines, |line| &line.operation), find)
 }
@@ -100,22 +94,9 @@ fn table(
     text
 }
 
-/// Decimal digits with a comma before every three.
-pub fn grouped(number: u64) -> String {
-    let digits = number.to_string();
-    let mut text = String::new();
-    for (i, digit) in digits.chars().enumerate() {
-        if i > 0 && (digits.len() - i) % 3 == 0 {
-            text.push(',');
-        }
-        text.push(digit);
-    }
-    text
-}
-
 #[cfg(test)]
 mod tests {
-    use super::{greatest, grouped, shares, spread};
+    use super::{greatest, shares, spread};
     use crate::measured::{parse, Line};
     use crate::names::Names;
 
@@ -149,13 +130,5 @@ mod tests {
         let rows = tables_of(|lines| shares(&lines[..1], &names));
         assert_eq!(rows[2], "| `c::d` | 75.0 % |");
         assert_eq!(rows[3], "| `a::b` | 25.0 % |");
-    }
-
-    #[test]
-    fn digits_are_grouped_by_three() {
-        assert_eq!(grouped(0), "0");
-        assert_eq!(grouped(999), "999");
-        assert_eq!(grouped(1000), "1,000");
-        assert_eq!(grouped(1234567), "1,234,567");
     }
 }

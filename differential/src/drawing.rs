@@ -4,7 +4,7 @@ use crate::call::Call;
 use crate::draw::Draw;
 use crate::frames::{MakeFrame, ReadFrame};
 use crate::records::{DecodeKept, Open, Splice};
-use crate::words::{Decode, Describe, Edit, Encode};
+use crate::words::{Decode, Describe, Edit, Encode, Sizes};
 use second::answers::Answers;
 use second::codes::listed;
 use second::frames::{frame_of_word, Reading, FRAME_BYTES};
@@ -37,23 +37,29 @@ impl Drawing {
         Drawing {
             draw,
             codes: (3..=10).map(codes_of).collect(),
-            answers: Answers::new(),
+            answers: Answers::default(),
         }
     }
 
     pub fn call(&mut self) -> Box<dyn Call> {
         let code = self.code();
-        match self.draw.below(9) {
-            0 => Box::new(self.describe(code)),
-            1 => Box::new(self.encode(code)),
-            2 => Box::new(self.decode(code)),
-            3 => Box::new(self.edit(code)),
-            4 => Box::new(self.open(code)),
-            5 => Box::new(self.splice(code)),
-            6 => Box::new(self.decode_kept(code)),
-            7 => Box::new(self.make_frame()),
+        match self.draw.below(10) {
+            0 => Box::new(self.sizes(code)),
+            1 => Box::new(self.describe(code)),
+            2 => Box::new(self.encode(code)),
+            3 => Box::new(self.decode(code)),
+            4 => Box::new(self.edit(code)),
+            5 => Box::new(self.open(code)),
+            6 => Box::new(self.splice(code)),
+            7 => Box::new(self.decode_kept(code)),
+            8 => Box::new(self.make_frame()),
             _ => Box::new(self.read_frame()),
         }
+    }
+
+    fn sizes(&mut self, code: Listed) -> Sizes {
+        let (m, t) = self.field_and_t(code);
+        Sizes { m, t }
     }
 
     fn describe(&mut self, code: Listed) -> Describe {

@@ -20,7 +20,7 @@ fn main() {
     let count = argument(1).unwrap_or(COUNT);
     let seed = argument(2).unwrap_or(SEED);
     let mut drawing = Drawing::new(Draw::new(seed));
-    let mut answers = Answers::new();
+    let mut answers = Answers::default();
     let mut tally = Tally::default();
     for operation in 1..=count {
         let call = drawing.call();

@@ -89,12 +89,11 @@ impl Call for DecodeKept {
 }
 
 fn proved_record(record: &Kept) -> blentovar::Kept {
-    blentovar::Kept {
-        m: record.m as usize,
-        t: record.t as usize,
-        bits: record.bits[..].try_into().expect("a record has 1,023 bits"),
-        sums: record.sums[..].try_into().expect("a record has 255 sums"),
-    }
+    let mut kept = blentovar::Kept::zeros();
+    (kept.m, kept.t) = (record.m as usize, record.t as usize);
+    kept.bits.copy_from_slice(&record.bits);
+    kept.sums.copy_from_slice(&record.sums);
+    kept
 }
 
 fn with_record(outcome: Outcome, kept: &blentovar::Kept) -> Outcome {

@@ -1,7 +1,38 @@
-//! Describe, Encode, Decode and Edit, by both programs.
+//! Sizes, Describe, Encode, Decode and Edit, by both programs.
 
 use crate::call::{Call, Outcome};
+use blentovar::{Code, Refusal};
 use second::answers::Answers;
+
+#[derive(Debug)]
+pub struct Sizes {
+    pub m: usize,
+    pub t: usize,
+}
+
+impl Call for Sizes {
+    fn name(&self) -> &'static str {
+        "Sizes"
+    }
+
+    fn proved(&self) -> Outcome {
+        let answer = blentovar::sizes(self.m, self.t);
+        Outcome::proved(&answer).giving(&n_and_k(answer))
+    }
+
+    fn expected(&self, answers: &mut Answers) -> Outcome {
+        let answer = answers.sizes(self.m as u64, self.t as u64);
+        let outcome = Outcome::expected(&answer);
+        match answer {
+            Ok(code) => outcome.giving(&[code.n as u64, code.k as u64]),
+            Err(_) => outcome,
+        }
+    }
+}
+
+fn n_and_k(answer: Result<Code, Refusal>) -> Vec<u64> {
+    answer.map_or(vec![], |code| vec![code.n as u64, code.k as u64])
+}
 
 #[derive(Debug)]
 pub struct Describe {
@@ -18,8 +49,8 @@ impl Call for Describe {
     fn proved(&self) -> Outcome {
         let mut generator = self.generator.clone();
         let answer = blentovar::describe(self.m, self.t, &mut generator);
-        let given = answer.map_or(vec![], |code| vec![code.n as u64, code.k as u64]);
-        Outcome::proved(&answer).giving(&given).bytes(&generator)
+        let outcome = Outcome::proved(&answer).giving(&n_and_k(answer));
+        outcome.bytes(&generator)
     }
 
     fn expected(&self, answers: &mut Answers) -> Outcome {

@@ -7,6 +7,13 @@ use crate::kept::Kept;
 use crate::{editing, kept, sheet, words};
 use std::collections::BTreeMap;
 
+/// n and k.
+#[derive(Debug, PartialEq)]
+pub struct Sizes {
+    pub n: usize,
+    pub k: usize,
+}
+
 /// n, k and the generator.
 #[derive(Debug, PartialEq)]
 pub struct Described {
@@ -23,24 +30,22 @@ pub struct Mended {
 }
 
 /// Keeps the generators that were asked for, since finding one takes long in a large field.
+#[derive(Default)]
 pub struct Answers {
     generators: BTreeMap<(usize, usize), Vec<u8>>,
     link: Link,
 }
 
 impl Answers {
-    pub fn new() -> Answers {
-        Answers {
-            generators: BTreeMap::new(),
-            link: Link::new(),
-        }
-    }
-
     fn generator(&mut self, code: &Code) -> &[u8] {
         let key = (code.n, code.t);
         self.generators
             .entry(key)
             .or_insert_with(|| code.generator())
+    }
+
+    pub fn sizes(&self, m: u64, t: u64) -> Result<Sizes, u32> {
+        sheet::sizes(m, t).map(|Code { n, k, .. }| Sizes { n, k })
     }
 
     pub fn describe(&mut self, m: u64, t: u64, places: usize) -> Result<Described, u32> {
@@ -128,11 +133,31 @@ impl Answers {
 
 #[cfg(test)]
 mod tests {
-    use super::{Answers, Mended};
+    use super::{Answers, Mended, Sizes};
+
+    #[test]
+    fn sizes_known_by_hand() {
+        let answers = Answers::default();
+        assert_eq!(answers.sizes(4, 3), Ok(Sizes { n: 15, k: 5 }));
+        assert_eq!(answers.sizes(8, 23), Ok(Sizes { n: 255, k: 99 }));
+        assert_eq!(answers.sizes(10, 255), Ok(Sizes { n: 1023, k: 11 }));
+    }
+
+    #[test]
+    fn sizes_refused_in_order() {
+        let answers = Answers::default();
+        for (m, t) in [(2, 1), (11, 1), (2, 0), (u64::MAX, u64::MAX)] {
+            assert_eq!(answers.sizes(m, t), Err(1), "m {m}, t {t}");
+        }
+        let unlisted = [(4, 0), (4, 4), (7, 8), (10, 256), (3, 3), (4, 7)];
+        for (m, t) in unlisted.into_iter().chain([(10, u64::MAX)]) {
+            assert_eq!(answers.sizes(m, t), Err(2), "m {m}, t {t}");
+        }
+    }
 
     #[test]
     fn words_and_refusals_checked_by_hand() {
-        let mut answers = Answers::new();
+        let mut answers = Answers::default();
         let third = vec![1, 1, 1, 0, 0, 0, 1, 0, 0, 1, 1, 0, 1, 0, 1];
         let message = [1, 0, 1, 0, 1];
         assert_eq!(answers.encode(4, 3, &message, 15), Ok(third.clone()));
@@ -149,7 +174,7 @@ mod tests {
 
     #[test]
     fn the_largest_code_has_11_message_places() {
-        let described = Answers::new().describe(10, 255, 1013);
+        let described = Answers::default().describe(10, 255, 1013);
         assert_eq!(described.map(|code| (code.n, code.k)), Ok((1023, 11)));
     }
 }

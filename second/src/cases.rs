@@ -1,6 +1,6 @@
 //! What crates/cases is to write for a text of commands: what each call answers, and what every lent buffer holds after it.
 
-use crate::answers::{Answers, Mended};
+use crate::answers::{Answers, Mended, Sizes};
 use crate::frames::Reading;
 use crate::kept::Kept;
 
@@ -18,7 +18,7 @@ pub fn text(bytes: &[u8]) -> String {
         word: vec![],
         stretch: vec![],
         record: Kept::zeros(),
-        answers: Answers::new(),
+        answers: Answers::default(),
     };
     let lines = bytes.split(|byte| *byte == b'\n').enumerate();
     lines.map(|(i, line)| bench.run(i + 1, line)).collect()
@@ -76,6 +76,7 @@ impl Bench {
 
     fn call(&mut self, name: &[u8], numbers: &[u64]) -> Option<String> {
         match (name, numbers) {
+            (b"sizes", &[m, t]) => Some(self.sizes(m, t)),
             (b"describe", &[m, t, places]) => Some(self.describe(m, t, word_room(places)?)),
             (b"encode", &[m, t, places]) => Some(self.encode(m, t, word_room(places)?)),
             (b"decode", &[m, t, places, listing]) => {
@@ -97,6 +98,13 @@ impl Bench {
             }
             (b"read", &[]) => Some(self.read()),
             _ => None,
+        }
+    }
+
+    fn sizes(&self, m: u64, t: u64) -> String {
+        match self.answers.sizes(m, t) {
+            Ok(Sizes { n, k }) => format!("0 {n} {k}"),
+            Err(number) => format!("{number} 0 0"),
         }
     }
 
@@ -262,6 +270,13 @@ mod tests {
     }
 
     #[test]
+    fn sizes_stand_beside_the_number() {
+        let commands = "sizes 4 3\nsizes 10 255\nsizes 11 3\nsizes 4 4\n";
+        let expected = "1 0 15 5\n2 0 1023 11\n3 1 0 0\n4 2 0 0\n";
+        assert_eq!(text(commands.as_bytes()), expected);
+    }
+
+    #[test]
     fn the_record_and_the_word_stay_from_line_to_line() {
         let commands = "word 15\nopen 4 3\nstretch 4 0 1 1 1 2 1 3 1\nsplice 0\nkept 15 3\nstretch 1 0 1\nsplice 15\nedit 4 3 18446744073709551615\n";
         let expected = "2 0 4 3 bits sums\n4 0 4 3 bits 0=1 1=1 2=1 3=1 sums 0=15 1=15 2=1\n5 6 0 word kept list kept\n7 12 4 3 bits 0=1 1=1 2=1 3=1 sums 0=15 1=15 2=1\n8 12 word kept\n";
@@ -270,8 +285,8 @@ mod tests {
 
     #[test]
     fn what_is_not_understood_is_said() {
-        let commands = "mend 4 3\nword 3 3 1\nword 3 0\nword 3 0 256\ndescribe 4 3\ndescribe 4 +3 11\ndescribe 4 3 2049\nbit 1023 1\nedit 4 3 18446744073709551616\nread ";
-        let expected: String = (1..=10).map(|i| format!("{i} not understood\n")).collect();
+        let commands = "mend 4 3\nword 3 3 1\nword 3 0\nword 3 0 256\ndescribe 4 3\ndescribe 4 +3 11\ndescribe 4 3 2049\nbit 1023 1\nedit 4 3 18446744073709551616\nsizes\nsizes 4\nsizes 4 3 15\nsizes 4  3\nread ";
+        let expected: String = (1..=14).map(|i| format!("{i} not understood\n")).collect();
         assert_eq!(text(commands.as_bytes()), expected);
     }
 }

@@ -32,13 +32,15 @@ pub fn frame_of_word(word: &[u8]) -> [u8; FRAME_BYTES] {
     frame
 }
 
-impl Link {
-    pub fn new() -> Link {
+impl Default for Link {
+    fn default() -> Link {
         let code = listed(8, 23).expect("the code of the link is listed");
         let generator = code.generator();
         Link { code, generator }
     }
+}
 
+impl Link {
     pub fn make(&self, reading: Reading) -> [u8; FRAME_BYTES] {
         let fields = (u128::from(reading.house) << 80)
             | (u128::from(reading.poll) << 64)
@@ -112,20 +114,20 @@ mod tests {
         bytes.push(254);
         bytes.extend([0; 5]);
         let expected = "1 read 0 0 0 0\n2 read 0 0 0 2\n3 refused 10\n4 refused 11\n5 refused 9\n";
-        assert_eq!(Link::new().listing(&bytes), expected);
+        assert_eq!(Link::default().listing(&bytes), expected);
     }
 
     #[test]
     fn nothing_after_the_millionth_frame_is_listed() {
         let bytes = vec![255; 32_000_005];
-        let text = Link::new().listing(&bytes);
+        let text = Link::default().listing(&bytes);
         assert_eq!(text.lines().count(), 1_000_000);
         assert!(text.ends_with("\n1000000 refused 10\n"));
     }
 
     #[test]
     fn what_is_made_reads_back_also_with_23_wrong() {
-        let link = Link::new();
+        let link = Link::default();
         let reading = Reading {
             house: 65535,
             poll: 1,
@@ -133,9 +135,7 @@ mod tests {
         };
         let mut frame = link.make(reading);
         assert_eq!(link.read(&frame), Ok((reading, 0)));
-        for i in 0..23 {
-            frame[i] ^= 64;
-        }
+        frame[..23].iter_mut().for_each(|byte| *byte ^= 64);
         assert_eq!(link.read(&frame), Ok((reading, 23)));
     }
 }

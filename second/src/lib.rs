@@ -3,6 +3,7 @@
 pub mod answers;
 pub mod cases;
 pub mod codes;
+pub mod codes_page;
 pub mod editing;
 pub mod euclid;
 pub mod every_code;

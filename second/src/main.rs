@@ -1,7 +1,7 @@
-//! Writes what one of the proved programs is to print, the bytes that it is to read, or how often noise is taken for a reading.
+//! Writes what one of the proved programs is to print, the bytes that it is to read, the page of the codes, or how often noise is taken for a reading.
 
 use second::frames::Link;
-use second::{cases, every_code, making, night, noise};
+use second::{cases, codes_page, every_code, making, night, noise};
 use std::io::{Read, Write};
 
 fn main() {
@@ -9,13 +9,14 @@ fn main() {
     let subject = words.next().unwrap_or_default();
     let bytes = match subject.as_str() {
         "every_code" => every_code::text().into_bytes(),
+        "codes" => codes_page::text().into_bytes(),
         "night" => night::frames(1),
         "nights" => night::frames(6),
         "million" => million(words.next()),
         "noise" => noise::text().into_bytes(),
         "cases" => cases::text(&standard_input()).into_bytes(),
         "making" => frames_of_lines(),
-        "listing" => Link::new().listing(&standard_input()).into_bytes(),
+        "listing" => Link::default().listing(&standard_input()).into_bytes(),
         _ => usage(),
     };
     std::io::stdout()
@@ -23,8 +24,20 @@ fn main() {
         .expect("standard output takes the text");
 }
 
+const USAGE: &str = "usage: second SUBJECT
+  every_code        what the program every_code is to print
+  cases <TEXT       what the program cases is to print for these commands
+  listing <FRAMES   what the listing is to print for these frames
+  making <LINES     the frames of these lines; on standard error, which lines are bad
+  night             the frames of a made-up night
+  nights            the frames of six made-up nights
+  million WRONG     a million frames with WRONG wrong bits each, 0 to 255
+  codes             the page docs/CODES.md
+  noise             how often noise is taken for a reading
+";
+
 fn usage() -> ! {
-    eprintln!("usage: second every_code|night|nights|noise, second million WRONG, second cases < TEXT, second listing < FRAMES, or second making < LINES");
+    eprint!("{USAGE}");
     std::process::exit(2);
 }
 

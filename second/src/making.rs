@@ -9,7 +9,7 @@ pub struct Made {
 
 /// What is made of an input; what stands after the last newline is a line unless it is empty.
 pub fn made(input: &[u8]) -> Made {
-    let link = Link::new();
+    let link = Link::default();
     let mut made = Made {
         frames: Vec::new(),
         messages: String::new(),

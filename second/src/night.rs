@@ -8,7 +8,7 @@ const POLLS: u16 = 5;
 
 /// The frames of all houses, poll by poll, for so many nights, and a piece of a last one.
 pub fn frames(nights: u16) -> Vec<u8> {
-    let link = Link::new();
+    let link = Link::default();
     let mut made_up = MadeUp::new(20261115);
     let mut bytes = Vec::new();
     for poll in 1..=nights * POLLS {
@@ -22,7 +22,7 @@ pub fn frames(nights: u16) -> Vec<u8> {
 
 /// So many frames of made-up readings, each with exactly so many wrong bits.
 pub fn spoiled(count: u32, wrong: usize) -> Vec<u8> {
-    let link = Link::new();
+    let link = Link::default();
     let mut made_up = MadeUp::new(20261115);
     let mut bytes = Vec::new();
     for number in 0..count {
@@ -89,7 +89,7 @@ mod tests {
 
     #[test]
     fn spoiled_frames_have_so_many_wrong() {
-        let link = Link::new();
+        let link = Link::default();
         for wrong in [0, 5, 23] {
             let bytes = spoiled(20, wrong);
             assert_eq!(bytes.len(), 20 * FRAME_BYTES);

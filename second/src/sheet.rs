@@ -11,6 +11,11 @@ fn code_or_refusal(m: u64, t: u64) -> Result<Code, u32> {
     listed(m, t).ok_or(2)
 }
 
+/// Sizes' order is 1, 2.
+pub fn sizes(m: u64, t: u64) -> Result<Code, u32> {
+    code_or_refusal(m, t)
+}
+
 /// Describe's order is 1, 2, 4.
 pub fn describe(m: u64, t: u64, generator_places: usize) -> Result<Code, u32> {
     let code = code_or_refusal(m, t)?;

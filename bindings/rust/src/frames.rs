@@ -3,20 +3,27 @@
 use crate::library;
 use crate::refusal::Refusal;
 
+/// The bytes of a frame.
 pub const FRAME_BYTES: usize = 32;
 
-/// Every value of the three fields is lawful.
+/// What a house reports in one frame. Every value of the three fields is lawful.
 #[derive(Clone, Copy, Debug, PartialEq, Eq)]
 pub struct Reading {
+    /// The number of the house.
     pub house: u16,
+    /// The number of the poll that it answers.
     pub poll: u16,
+    /// Its byte counter.
     pub counter: u64,
 }
 
-/// What a frame gives: its reading, and how many places were wrong.
+/// What a frame gives.
 #[derive(Clone, Copy, Debug, PartialEq, Eq)]
+#[non_exhaustive]
 pub struct Received {
+    /// The reading that was sent.
     pub reading: Reading,
+    /// How many places were wrong, 0 to 23.
     pub wrong: usize,
 }
 

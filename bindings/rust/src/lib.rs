@@ -1,6 +1,14 @@
-//! The operations of Blentovar over slices, by the static library of the proved crate `blentovar`.
+//! Error-correcting codes: 232 binary BCH codes with words of 7 to 1,023 bits, and the reading frame of the ridge link.
 //!
-//! Bits are lent one to a byte, 0 or 1, except in frames; place i of a word is the coefficient of x^i. The code of (m, t) has n = 2^m - 1 places, k of them for the message, and mends up to t wrong places. Lengths are exact. After a refusal no lent buffer has changed.
+//! A message is sent in a word that also holds parity. In the word that arrives, up to t wrong places are found and mended; if no code word is that near, it is refused. The work is done by the static library `libblentovar.a`, whose every function is proved to meet its promise. This crate calls it over slices, which rules out bad pointers and buffers that overlap. It needs neither the standard library nor a heap.
+//!
+//! # How to link it
+//!
+//! The library is x86-64 Linux code. `rt staticlib blentovar` in the repository of Blentovar writes it to `target/staticlib`, where the crate looks for it; if it is elsewhere, the environment variable `BLENTOVAR_LIB_DIR` names its folder. `docs/INTEGRATING.md` in the repository says what the library needs and how much stack each call takes, and `examples/rust` there is a whole program.
+//!
+//! # How it works
+//!
+//! Bits are lent one to a byte, 0 or 1, except in frames; place i of a word is the coefficient of x^i. The code of (m, t) has n = 2^m - 1 places, k of them for the message, and mends up to t wrong places; [`sizes`] gives n and k. Lengths are exact: a longer buffer is refused as a shorter one is. Every operation checks what it is lent in a fixed order, and its page names the numbers of the [`Refusal`]s in that order. After a refusal no lent buffer has changed.
 //!
 //! ```
 //! let mut sent = [0; 15];
@@ -13,8 +21,12 @@
 //! # Ok::<(), blentovar::Refusal>(())
 //! ```
 
+#![no_std]
+#![warn(missing_docs)]
+
 mod frames;
 mod kept;
+mod layout;
 mod library;
 mod refusal;
 mod words;
@@ -22,4 +34,4 @@ mod words;
 pub use frames::{frame_of, make_frame, read_frame, Reading, Received, FRAME_BYTES};
 pub use kept::{Kept, BITS, SUMS};
 pub use refusal::Refusal;
-pub use words::{decode, describe, edit, encode, Code};
+pub use words::{decode, describe, edit, encode, sizes, Code};

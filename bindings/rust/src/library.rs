@@ -1,12 +1,14 @@
 //! The functions of the static library, called over slices; every unsafe call stands here.
 //!
-//! What each call rests on: the library is proved to read and write only the places of the slices it is lent; slices that are borrowed for one call do not overlap where one of them is written; an empty slice has a pointer that is not null; and the structs are laid out as the library's are.
+//! What each call rests on: the library is proved to read and write only the places of the slices it is lent; slices that are borrowed for one call do not overlap where one of them is written; an empty slice has a pointer that is not null; and the structs are laid out as the library's are, to whose offsets `layout.rs` holds them.
 
 use crate::kept::Kept;
 
+/// What Sizes and Describe answer.
 #[repr(C)]
-pub struct DescribeAnswer {
+pub struct SizesAnswer {
     pub number: u32,
+    pub zero_after_number: u32,
     pub n: usize,
     pub k: usize,
 }
@@ -14,12 +16,14 @@ pub struct DescribeAnswer {
 #[repr(C)]
 pub struct DecodeAnswer {
     pub number: u32,
+    pub zero_after_number: u32,
     pub wrong: usize,
 }
 
 #[repr(C)]
 pub struct KeptAnswer {
     pub number: u32,
+    pub zero_after_number: u32,
     pub record: Kept,
 }
 
@@ -33,15 +37,16 @@ pub struct ReadAnswer {
 }
 
 mod raw {
-    use super::{DecodeAnswer, DescribeAnswer, Kept, KeptAnswer, ReadAnswer};
+    use super::{DecodeAnswer, Kept, KeptAnswer, ReadAnswer, SizesAnswer};
 
     extern "C" {
+        pub fn blentovar_sizes(m: usize, t: usize) -> SizesAnswer;
         pub fn blentovar_describe(
             m: usize,
             t: usize,
             generator: *mut u8,
             generator_places: usize,
-        ) -> DescribeAnswer;
+        ) -> SizesAnswer;
         pub fn blentovar_encode(
             m: usize,
             t: usize,
@@ -99,7 +104,12 @@ mod raw {
     }
 }
 
-pub fn describe(m: usize, t: usize, generator: &mut [u8]) -> DescribeAnswer {
+pub fn sizes(m: usize, t: usize) -> SizesAnswer {
+    // SAFETY: nothing is lent.
+    unsafe { raw::blentovar_sizes(m, t) }
+}
+
+pub fn describe(m: usize, t: usize, generator: &mut [u8]) -> SizesAnswer {
     // SAFETY: only the places of the slice are written.
     unsafe { raw::blentovar_describe(m, t, generator.as_mut_ptr(), generator.len()) }
 }

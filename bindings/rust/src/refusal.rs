@@ -1,22 +1,35 @@
 //! The refusal sheet.
 
-use std::fmt;
+use core::error::Error;
+use core::fmt;
 
-/// The refusals, each with its number.
+/// Why an operation refused. Each refusal has one number and one condition, which is also its text. Where several conditions hold, the one that is checked first is given.
 #[derive(Clone, Copy, Debug, PartialEq, Eq, Hash)]
+#[non_exhaustive]
 pub enum Refusal {
+    /// 1: m is not 3 to 10.
     FieldSize = 1,
+    /// 2: t is not listed for m.
     NotListed = 2,
+    /// 3: the message is not k long; a received or edited word is not n long.
     InputLength = 3,
+    /// 4: an output buffer has the wrong length, longer or shorter.
     OutputLength = 4,
+    /// 5: a bit of a lent message, word or stretch is above 1.
     BitAboveOne = 5,
+    /// 6: no code word within t (Decode, reading a frame); no set of at most t places with the kept sums (Decode kept).
     NothingNear = 6,
+    /// 7: in a kept record one of the first n bits is above 1 or one of the first t sums is 2^m or more.
     RecordContents = 7,
-    /// Proved never to come.
+    /// 8: the mended word fails a second check of its sums (Decode only; it never comes).
     SecondCheck = 8,
+    /// 9: a frame, or the buffer for one, is not 32 bytes.
     FrameLength = 9,
+    /// 10: a frame's last bit is 1.
     PadBit = 10,
+    /// 11: a decoded frame's lead bits are wrong.
     LeadBits = 11,
+    /// 12: a stretch runs past the end: k for Edit, n for Splice.
     StretchEnd = 12,
 }
 
@@ -65,17 +78,21 @@ impl fmt::Display for Refusal {
             InputLength => "the message is not k long; a received or edited word is not n long",
             OutputLength => "an output buffer has the wrong length, longer or shorter",
             BitAboveOne => "a bit of a lent message, word or stretch is above 1",
-            NothingNear => "no code word within t; no set of places with the kept sums",
+            NothingNear => {
+                "no code word within t (Decode, reading a frame); no set of at most t places with the kept sums (Decode kept)"
+            }
             RecordContents => {
                 "in a kept record one of the first n bits is above 1 or one of the first t sums is 2^m or more"
             }
-            SecondCheck => "the mended word fails a second check of its sums",
-            FrameLength => "a frame is not 32 bytes",
+            SecondCheck => {
+                "the mended word fails a second check of its sums (Decode only; it never comes)"
+            }
+            FrameLength => "a frame, or the buffer for one, is not 32 bytes",
             PadBit => "a frame's last bit is 1",
             LeadBits => "a decoded frame's lead bits are wrong",
-            StretchEnd => "a stretch runs past the end",
+            StretchEnd => "a stretch runs past the end: k for Edit, n for Splice",
         })
     }
 }
 
-impl std::error::Error for Refusal {}
+impl Error for Refusal {}

@@ -1,29 +1,52 @@
-//! Describe, Encode, Decode and Edit.
+//! Sizes, Describe, Encode, Decode and Edit.
 
-use crate::library;
+use crate::library::{self, SizesAnswer};
 use crate::refusal::Refusal;
 
-/// The places of a code word, and those of a message.
+/// The sizes of a code.
 #[derive(Clone, Copy, Debug, PartialEq, Eq)]
+#[non_exhaustive]
 pub struct Code {
+    /// The places of a word.
     pub n: usize,
+    /// The places of a message.
     pub k: usize,
 }
 
-/// The code of (m, t). The generator's buffer has n - k + 1 places; place i gets the coefficient of x^i. Checks: 1, 2, 4.
+impl Code {
+    fn checked(answer: SizesAnswer) -> Result<Code, Refusal> {
+        let SizesAnswer { number, n, k, .. } = answer;
+        Refusal::check(number).map(|()| Code { n, k })
+    }
+}
+
+/// The sizes of the code of (m, t), by which buffers for the other operations are made. Checks: 1, 2.
 ///
 /// ```
-/// use blentovar::{describe, Code};
-/// let mut generator = [0; 5];
-/// assert_eq!(describe(4, 1, &mut generator)?, Code { n: 15, k: 11 });
+/// use blentovar::{encode, sizes};
+/// let code = sizes(8, 23)?;
+/// assert_eq!((code.n, code.k), (255, 99));
+/// let (message, mut word) = (vec![1; code.k], vec![0; code.n]);
+/// encode(8, 23, &message, &mut word)?;
+/// assert_eq!(word[code.n - code.k..], message);
+/// # Ok::<(), blentovar::Refusal>(())
+/// ```
+pub fn sizes(m: usize, t: usize) -> Result<Code, Refusal> {
+    Code::checked(library::sizes(m, t))
+}
+
+/// The code of (m, t) with its generator, whose place i gets the coefficient of x^i. The generator's buffer has n - k + 1 places; [`sizes`] gives n and k. Checks: 1, 2, 4.
+///
+/// ```
+/// use blentovar::{describe, sizes};
+/// let code = sizes(4, 1)?;
+/// let mut generator = vec![0; code.n - code.k + 1];
+/// assert_eq!(describe(4, 1, &mut generator)?, code);
 /// assert_eq!(generator, [1, 1, 0, 0, 1]);
 /// # Ok::<(), blentovar::Refusal>(())
 /// ```
 pub fn describe(m: usize, t: usize, generator: &mut [u8]) -> Result<Code, Refusal> {
-    let answer = library::describe(m, t, generator);
-    Refusal::check(answer.number)?;
-    let (n, k) = (answer.n, answer.k);
-    Ok(Code { n, k })
+    Code::checked(library::describe(m, t, generator))
 }
 
 /// Puts the code word that carries a message of k bits into a buffer of n places. Checks: 1, 2, 3, 4, 5.

@@ -1,7 +1,7 @@
 //! The cases worked out by hand. Sets are places that hold 1.
 
 use blentovar::{
-    decode, describe, edit, encode, frame_of, read_frame, Code, Kept, Reading, Received, Refusal,
+    decode, describe, edit, encode, frame_of, read_frame, sizes, Code, Kept, Reading, Refusal,
 };
 
 const THIRD_WORD: [usize; 8] = [0, 1, 2, 6, 9, 10, 12, 14];
@@ -79,7 +79,8 @@ fn splices_into_an_opened_word() {
 
 #[test]
 fn a_record_built_by_hand() {
-    let mut kept = Kept::open(4, 3, &[0; 15]).expect("the word is taken");
+    let mut kept = Kept::zeros();
+    (kept.m, kept.t) = (4, 3);
     kept.sums[..3].copy_from_slice(&[3, 7, 1]);
     kept.bits[15] = 2;
     kept.sums[3] = 99;
@@ -105,9 +106,18 @@ fn the_zero_word_edited() {
 }
 
 #[test]
-fn the_largest_code() {
+fn sizes_of_codes() {
+    let n_and_k = |code: Code| (code.n, code.k);
+    assert_eq!(sizes(4, 3).map(n_and_k), Ok((15, 5)));
+    assert_eq!(sizes(8, 23).map(n_and_k), Ok((255, 99)));
+    assert_eq!(sizes(10, 255).map(n_and_k), Ok((1023, 11)));
     let described = describe(10, 255, &mut [0; 1013]);
-    assert_eq!(described, Ok(Code { n: 1023, k: 11 }));
+    assert_eq!(described.map(n_and_k), Ok((1023, 11)));
+}
+
+/// The reading of a frame and how many places were wrong.
+fn read(frame: &[u8]) -> Result<(Reading, usize), Refusal> {
+    read_frame(frame).map(|received| (received.reading, received.wrong))
 }
 
 #[test]
@@ -117,19 +127,15 @@ fn the_frames_of_the_listing() {
         poll: 0,
         counter: 0,
     };
-    let read = |wrong| {
-        let reading = zeros;
-        Ok(Received { reading, wrong })
-    };
     let mut frame = frame_of(zeros);
-    assert_eq!(read_frame(&frame), read(0));
+    assert_eq!(read(&frame), Ok((zeros, 0)));
     frame[5] = 129;
-    assert_eq!(read_frame(&frame), read(2));
+    assert_eq!(read(&frame), Ok((zeros, 2)));
     let mut ones = [255; 32];
-    assert_eq!(read_frame(&ones), Err(Refusal::PadBit));
+    assert_eq!(read(&ones), Err(Refusal::PadBit));
     ones[31] = 254;
-    assert_eq!(read_frame(&ones), Err(Refusal::LeadBits));
-    assert_eq!(read_frame(&[0; 5]), Err(Refusal::FrameLength));
+    assert_eq!(read(&ones), Err(Refusal::LeadBits));
+    assert_eq!(read(&[0; 5]), Err(Refusal::FrameLength));
 }
 
 #[test]
@@ -141,6 +147,5 @@ fn a_reading_comes_back_through_23_wrong_places() {
     };
     let mut frame = frame_of(reading);
     frame[..23].iter_mut().for_each(|byte| *byte ^= 64);
-    let wrong = 23;
-    assert_eq!(read_frame(&frame), Ok(Received { reading, wrong }));
+    assert_eq!(read(&frame), Ok((reading, 23)));
 }

@@ -1,34 +1,23 @@
 //! Each refusal, and of two faults the one that is checked first. Records and words are of m 4 and t 3 where nothing else is said.
 
-use blentovar::{decode, describe, edit, encode, make_frame, read_frame, Kept, Reading, Refusal};
+use blentovar::{
+    decode, describe, edit, encode, make_frame, read_frame, sizes, Kept, Reading, Refusal,
+};
 
 /// The number of an answer, 0 where nothing is refused.
 fn number<T>(answer: Result<T, Refusal>) -> u32 {
     answer.map_or_else(Refusal::number, |_| 0)
 }
 
-const SHEET: [Refusal; 12] = [
-    Refusal::FieldSize,
-    Refusal::NotListed,
-    Refusal::InputLength,
-    Refusal::OutputLength,
-    Refusal::BitAboveOne,
-    Refusal::NothingNear,
-    Refusal::RecordContents,
-    Refusal::SecondCheck,
-    Refusal::FrameLength,
-    Refusal::PadBit,
-    Refusal::LeadBits,
-    Refusal::StretchEnd,
-];
-
 #[test]
-fn numbers_texts_and_names_are_those_of_the_sheet() {
-    let page = include_str!("../../../docs/REFUSALS.md");
-    for refusal in SHEET {
-        let line = format!("| {} | {refusal} | `{refusal:?}` |", refusal.number());
-        assert!(page.lines().any(|other| other == line), "{line}");
-    }
+fn sizes_refuses_in_order() {
+    let sizing = |(m, t)| number(sizes(m, t));
+    assert_eq!(sizing((4, 3)), 0);
+    assert_eq!([(2, 1), (11, 1), (usize::MAX, 1)].map(sizing), [1; 3]);
+    let unlisted = [(4, 0), (4, 4), (7, 8), (10, 256), (3, 3), (4, 7)];
+    assert_eq!(unlisted.map(sizing), [2; 6]);
+    assert_eq!([(4, 259), (10, usize::MAX)].map(sizing), [2; 2]);
+    assert_eq!(sizing((2, 0)), 1);
 }
 
 #[test]

@@ -36,7 +36,7 @@ module _ (K : Ring) where
   open Ring (series K) using (_⊗_ as _⊗ˢ_)
 
   infixl 70 _⊗ˢ_
-  -- if S takes a to u and b to v below k, then u b and v a agree there
+  -- if below k the product a S is u and b S is v, then u b and v a agree below k
   crossed : (k : ℕ) (S a u b v : Series K) → EqualBelow K k (a ⊗ˢ S) u → EqualBelow K k (b ⊗ˢ S) v → EqualBelow K k (u ⊗ˢ b) (v ⊗ˢ a)
   crossed k S a u b v e f n h =
       sym (below-product K k (a ⊗ˢ S) u b e n h) ∙ ap (λ p. p n) (swap-last (series K) a b S) ∙ below-product K k (b ⊗ˢ S) v a f n h
@@ -86,7 +86,7 @@ module _ (F : Field) (S : Series (F .ring)) (E : List (F .ring .El)) (r : ℕ) (
       (zero-from-weaken K (Ω ⊗ˢ p) (length E + k) r b (zero-from-product K (length E) k Ω p (evaluator-from K E) y))
       (zero-from-weaken K (w ⊗ˢ Λ) (k + length E) r (omega arith) (zero-from-product K k (length E) w Λ z (locator-from K E)))
 
-  -- L is at most the length of E, or x^r Λ would be B times what vanishes below r
+  -- L is at most the length of E; otherwise x^r Λ would be B times a series that vanishes below r
   not-longer : length E < s .L → 𝟙 ≡ 𝟘
   not-longer l = sym (locator-one K E) ∙ sym (monomial-product K r Λ) ∙ ap (λ p. p r) split ∙ product-vanishes K r (s .B) (Ω ⊗ˢ s .σ ⊕ˢ ω ⊗ˢ Λ) (kept .B-zero) (λ n h. sum-of-equal K _ _ (σ-crossed n h))
     where

@@ -65,7 +65,7 @@ module _ (K : Ring) (S : Series K) where
 
   infixl 60 _⊕_ _⊕ˢ_
   infixl 70 _⊗_ _⊗ˢ_
-  -- one place further, σ S is ω and what it misses at r
+  -- one place further, σ S is ω plus what it misses at r
   missed : (r : ℕ) (s w : Series K) → EqualBelow K r (s ⊗ˢ S) w → w r ≡ 𝟘 → EqualBelow K (suc r) (s ⊗ˢ S) (w ⊕ˢ scale K ((s ⊗ˢ S) r) (monomial K r))
   missed r s w e z = Degree.below-extend K r _ _ below here
     where

@@ -156,7 +156,7 @@ added-twice (x ∷ xs) [] b c = refl
 added-twice (x ∷ xs) (y ∷ ys) b c =
     ap₂ (λ z zs. z ∷ zs) (xor-cancel-bit (bits-head b) (bits-head c)) (added-twice xs ys (bits-tail b) (bits-tail c))
 
--- what leads from xs to the sum of both is ys
+-- xs added to the sum of xs and ys gives ys
 pub added-back : (xs ys : List ℕ) → length xs ≡ length ys → AreBits xs → AreBits ys → added xs (added xs ys) ≡ ys
 added-back xs ys h b c = added-comm xs (added xs ys) (sym (length-added xs ys)) ∙ ap (λ zs. added zs xs) (added-comm xs ys h) ∙ added-twice ys xs c b
 
@@ -356,7 +356,7 @@ firstAbove-of-bits (x ∷ xs) b = firstAbove-bit xs (bits-head b) ∙ ap suc (fi
 pub all-bits : (xs : List ℕ) {bad : ℕ} → bad ≡ firstAbove xs → length xs ≤ bad → AreBits xs
 all-bits xs {bad} e h = bits-of-firstAbove xs (le-antisymm (firstAbove-most xs) (rw (← e) h))
 
--- no place above 1 is found exactly in bits
+-- the search finds no place above 1 exactly if all places hold bits
 pub not-bad : {xs : List ℕ} → AreBits xs → hasBadBit xs ≡ false
 not-bad {xs} b = le-ltb (firstAbove xs) (length xs) (omega (arith, firstAbove-of-bits xs b))
 

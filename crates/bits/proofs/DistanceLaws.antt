@@ -71,7 +71,7 @@ pub differences-other : {x y : ℕ} (xs ys : List ℕ) → x ≢ y → differenc
 unfolding differences
 differences-other xs ys n = from-other 0 xs ys n ∙ ap (λ ps. 0 ∷ ps) (from-later 0 xs ys)
 
--- what holds of the differences of no bits, is kept by a place where the two agree and by one where they do not, holds of all differences
+-- induction over the differences: no bits, one more place where the two agree, one more place where they differ
 differences-ind : (P : List ℕ → List ℕ → List ℕ → Type 0) → ((ys : List ℕ) → P [] ys []) → ((xs : List ℕ) → P xs [] [])
     → ((x y : ℕ) (xs ys ps : List ℕ) → x ≡ y → P xs ys ps → P (x ∷ xs) (y ∷ ys) (map suc ps))
     → ((x y : ℕ) (xs ys ps : List ℕ) → x ≢ y → P xs ys ps → P (x ∷ xs) (y ∷ ys) (0 ∷ map suc ps))
@@ -131,7 +131,7 @@ pub differences-self : (xs : List ℕ) → differences xs xs ≡ []
 differences-self [] = differences-nil []
 differences-self (x ∷ xs) = differences-same xs xs refl ∙ ap (map suc) (differences-self xs)
 
--- a place past all differences changed: it comes after them
+-- a place past all differences that is changed comes last in the list
 pub differences-more : (xs ys : List ℕ) (p x : ℕ) → length xs ≡ length ys → p < length ys → ((i : ℕ) → p ≤ i → getD xs i 0 ≡ getD ys i 0) → getD ys p 0 ≢ x
     → differences xs (set ys p x) ≡ differences xs ys ++ p ∷ []
 differences-more xs [] p x l h same n = absurd (omega arith)

@@ -1,4 +1,4 @@
--- Ascending lists of places: who is among them, and that the members determine the list.
+-- Ascending lists of places: which places are members, and that the members determine the list.
 use mathlib.Core.Path.{_≡_, refl, sym, ap, ap₂}
 use mathlib.Core.Logic.{_⊎_, inl, inr}
 use mathlib.Core.List.{List, [], _∷_, map, List·Memᴰ, List·Memᴰ·head, List·Memᴰ·tail, List·Memᴰ·not-nil, List·Memᴰ·cases-cons}

@@ -73,7 +73,7 @@ same-from n xs ys e i h =
     let at : n + (i - n) ≡ i = omega arith in
     subst (λ (p : ℕ). getD xs p 0 ≡ getD ys p 0) at (sym (getD-drop n xs (i - n) 0) ∙ ap (λ (l : List ℕ). getD l (i - n) 0) e ∙ getD-drop n ys (i - n) 0)
 
--- and at the places before and after them
+-- what a copy leaves at the places before and after those copied to
 pub paste-before : (d : List ℕ) (at : ℕ) (s : List ℕ) (i : ℕ) → at ≤ length d → i < at → getD (paste d at s (length s)) i 0 ≡ getD d i 0
 paste-before d at s i h k =
     List·getD-append (take at d ++ take (length s) s) (drop (at + length s) d) 0 i (omega (arith, length-paste-head d at s (length s) h (omega arith)))
@@ -92,7 +92,7 @@ paste-part d e at s h =
     ap₂ (λ (x y : List ℕ). x ++ take (length s) s ++ y) (take-append-le at d e (omega arith)) (drop-append-le (at + length s) d e h)
     ∙ sym (append-assoc (take at d ++ take (length s) s) (drop (at + length s) d) e)
 
--- so to copy and to take the first n places may change about, and the places from n on are as they were
+-- so copying and taking the first n places may be done in either order, and the places from n on stay as they were
 pub paste-front : (n : ℕ) (d : List ℕ) (at : ℕ) (s : List ℕ) → n ≤ length d → at + length s ≤ n
     → (take n (paste d at s (length s)) ≡ paste (take n d) at s (length s)) × (drop n (paste d at s (length s)) ≡ drop n d)
 paste-front n d at s h k =
@@ -104,7 +104,7 @@ paste-front n d at s h k =
       ap (drop n) whole ∙ drop-at (paste (take n d) at s (length s)) (drop n d) n long,
     )
 
--- to run past the end is to need more than the room that is left
+-- a stretch runs past the end exactly if it is longer than the room that is left
 pub room-past : (start long end : ℕ) → start ≤ end → ltb (end - start) long ≡ ltb end (start + long)
 room-past start long end h = pick (decLt (end - start) long)
   where

@@ -1,4 +1,4 @@
--- Bits lent one to a byte.
+-- Bits in lists. docs/SCOPE.md 4.1: "Bits are lent one to a byte, 0 or 1, except in frames."
 use mathlib.Core.Bool.{Bool, cond}
 use mathlib.Core.List.{List, [], _∷_}
 use Prim.Native.Nat.{ℕ, zero, suc, _+_, _-_, _≤_}
@@ -24,7 +24,8 @@ firstAbove (x ∷ xs) = cond (leb x 1) (suc (firstAbove xs)) 0
 abbrev pub hasBadBit : List ℕ → Bool
 hasBadBit xs = ltb (firstAbove xs) (length xs)
 
--- so many places from `start` on run past the end; these are plain numbers, so nothing wraps
+-- So many places from `start` on run past the end; these are plain numbers, so nothing wraps.
+-- docs/SCOPE.md 4.1: "A stretch runs past the end if its start is past the end or if it is longer than what is left from its start on."
 abbrev pub runsPast : ℕ → ℕ → ℕ → Bool
 runsPast start long end = ltb end (start + long)
 

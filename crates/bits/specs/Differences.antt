@@ -1,4 +1,4 @@
--- Where two words differ, and how far apart they are.
+-- Where two words differ, and how far apart they are. docs/SCOPE.md 3.2: "The distance of two words is the number of places where they differ."
 use mathlib.Core.Bool.{cond}
 use mathlib.Core.List.{List, [], _∷_, List·Memᴰ}
 use Prim.Native.Nat.{ℕ, suc, _<_}

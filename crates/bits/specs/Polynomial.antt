@@ -1,4 +1,4 @@
--- Polynomials over bits: place i of a list is the coefficient of x^i.
+-- Polynomials over bits. docs/SCOPE.md 3: "Place i of it holds the coefficient of x^i."
 use mathlib.Core.List.{List, [], _∷_, map}
 use Prim.Native.Nat.{ℕ, _*_}
 use lib.ListN.{length, replicate}

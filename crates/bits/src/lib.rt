@@ -1,4 +1,4 @@
-// Bits lent one to a byte: looking for one that is none, adding, copying, clearing, turning over; whether a stretch ends in time.
+// Bits lent one to a byte: finding one above 1, adding, copying, clearing, turning over, and telling whether a stretch runs past the end.
 
 ghost use mathlib.Core.Path.{_≡_};
 ghost use mathlib.Core.List.{List·Memᴰ};
@@ -89,7 +89,7 @@ pub fn turned_over(word: &[u8], places: &[u16]) -> [u8; 1024]
     space
 }
 
-// Whether so many places from `start` on run past the end. No sum of the two is made: it could wrap.
+// Whether a stretch of `long` places from `start` on runs past the end. `start` and `long` are not added, since the sum could wrap.
 pub fn runs_past(start: usize, long: usize, end: usize) -> bool
     ensures { λ r. ⌜ r ≡ runsPast start long end ⌝ }
 {

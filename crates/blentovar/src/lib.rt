@@ -1,13 +1,20 @@
-// The operations under C names, each a thin call of the proved one.
+// The operations under C names, each a thin call of the proved one. What C would pad is a field that holds 0.
 
-ghost use Rattle.blentovar.specs.Answers.{DescribesAs, EncodesAs, DecodesAs, EditsAs, OpensAs, SplicesAs, DecodesKeptAs, MakesAs, ReadsAs};
+ghost use mathlib.Core.Path.{_≡_};
+ghost use Rattle.blentovar.specs.Answers.{SizesAs, DescribesAs, EncodesAs, DecodesAs, EditsAs, OpensAs, SplicesAs, DecodesKeptAs, MakesAs, ReadsAs};
+ghost use Rattle.blentovar.specs.Layout.{sizesAnswer, decodeAnswer, laidOut, keptOf, keptAnswer, readAnswer};
+use codec::Described;
+use decode::Decoded;
+use frame::ReadFrame;
+use kept::Answer;
 use kept::Kept;
 use layout::Reading;
 
 // The sheet's number, 0 where nothing is refused, and n and k.
 #[repr(C)]
-pub struct DescribeAnswer {
+pub struct SizesAnswer {
     pub number: u32,
+    pub zero_after_number: u32,
     pub n: usize,
     pub k: usize,
 }
@@ -16,14 +23,27 @@ pub struct DescribeAnswer {
 #[repr(C)]
 pub struct DecodeAnswer {
     pub number: u32,
+    pub zero_after_number: u32,
     pub wrong: usize,
+}
+
+// A kept record.
+#[repr(C)]
+pub struct Record {
+    pub m: usize,
+    pub t: usize,
+    pub bits: [u8; 1023],
+    pub zero_after_bits: u8,
+    pub sums: [u16; 255],
+    pub zero_after_sums: u16,
 }
 
 // The sheet's number, 0 where nothing is refused, and the record.
 #[repr(C)]
 pub struct KeptAnswer {
     pub number: u32,
-    pub record: Kept,
+    pub zero_after_number: u32,
+    pub record: Record,
 }
 
 // The sheet's number, 0 where nothing is refused, the reading, and the number of wrong places.
@@ -36,17 +56,98 @@ pub struct ReadAnswer {
     pub wrong: usize,
 }
 
+fn sizes_answer(given: Described) -> SizesAnswer
+    ensures { λ r. ⌜ r ≡ sizesAnswer given ⌝ }
+{
+    let outcome = given.outcome;
+    SizesAnswer {
+        number: sheet::outcome_number(outcome),
+        zero_after_number: 0,
+        n: given.n,
+        k: given.k,
+    }
+}
+
+fn decode_answer(given: Decoded) -> DecodeAnswer
+    ensures { λ r. ⌜ r ≡ decodeAnswer given ⌝ }
+{
+    let outcome = given.outcome;
+    DecodeAnswer {
+        number: sheet::outcome_number(outcome),
+        zero_after_number: 0,
+        wrong: given.wrong,
+    }
+}
+
+fn laid_out(kept: Kept) -> Record
+    ensures { λ r. ⌜ r ≡ laidOut kept ⌝ }
+{
+    let bits = kept.bits;
+    let sums = kept.sums;
+    Record {
+        m: kept.m,
+        t: kept.t,
+        bits,
+        zero_after_bits: 0,
+        sums,
+        zero_after_sums: 0,
+    }
+}
+
+// What stands in the fields that come back as 0 is not looked at.
+fn kept_of(stored: Record) -> Kept
+    ensures { λ r. ⌜ r ≡ keptOf stored ⌝ }
+{
+    let bits = stored.bits;
+    let sums = stored.sums;
+    Kept {
+        m: stored.m,
+        t: stored.t,
+        bits,
+        sums,
+    }
+}
+
+fn kept_answer(given: Answer) -> KeptAnswer
+    ensures { λ r. ⌜ r ≡ keptAnswer given ⌝ }
+{
+    let outcome = given.outcome;
+    let record = given.record;
+    KeptAnswer {
+        number: sheet::outcome_number(outcome),
+        zero_after_number: 0,
+        record: laid_out(record),
+    }
+}
+
+fn read_answer(given: ReadFrame) -> ReadAnswer
+    ensures { λ r. ⌜ r ≡ readAnswer given ⌝ }
+{
+    let outcome = given.outcome;
+    let reading = given.reading;
+    ReadAnswer {
+        number: sheet::outcome_number(outcome),
+        house: reading.house,
+        poll: reading.poll,
+        counter: reading.counter,
+        wrong: given.wrong,
+    }
+}
+
 #[no_mangle]
-pub extern "C" fn blentovar_describe(m: usize, t: usize, generator: &mut [u8]) -> DescribeAnswer
+pub extern "C" fn blentovar_sizes(m: usize, t: usize) -> SizesAnswer
+    ensures { λ r. ⌜ SizesAs m t r ⌝ }
+{
+    let given = codec::sizes(m, t);
+    sizes_answer(given)
+}
+
+#[no_mangle]
+pub extern "C" fn blentovar_describe(m: usize, t: usize, generator: &mut [u8]) -> SizesAnswer
     ensures { λ r. ⌜ DescribesAs m t (now (generator .entry)) r (now (generator .exit)) ⌝ }
 {
-    let answer = codec::describe(m, t, generator);
-    let outcome = answer.outcome;
-    DescribeAnswer {
-        number: sheet::outcome_number(outcome),
-        n: answer.n,
-        k: answer.k,
-    }
+    let given = codec::describe(m, t, generator);
+    sizes_answer(given)
 }
 
 #[no_mangle]
@@ -67,12 +168,8 @@ pub extern "C" fn blentovar_decode(
 ) -> DecodeAnswer
     ensures { λ r. ⌜ DecodesAs m t (now (received .entry)) (now (word .entry)) (now (list .entry)) r (now (word .exit)) (now (list .exit)) ⌝ }
 {
-    let answer = decode::decode(m, t, received, word, list);
-    let outcome = answer.outcome;
-    DecodeAnswer {
-        number: sheet::outcome_number(outcome),
-        wrong: answer.wrong,
-    }
+    let given = decode::decode(m, t, received, word, list);
+    decode_answer(given)
 }
 
 #[no_mangle]
@@ -93,38 +190,30 @@ pub extern "C" fn blentovar_edit(
 pub extern "C" fn blentovar_open(m: usize, t: usize, word: &[u8]) -> KeptAnswer
     ensures { λ r. ⌜ OpensAs m t (now (word .entry)) r ⌝ }
 {
-    let answer = kept::open(m, t, word);
-    let outcome = answer.outcome;
-    let record = answer.record;
-    let number = sheet::outcome_number(outcome);
-    KeptAnswer { number, record }
+    let given = kept::open(m, t, word);
+    kept_answer(given)
 }
 
 #[no_mangle]
-pub extern "C" fn blentovar_splice(kept: Kept, start: usize, stretch: &[u8]) -> KeptAnswer
-    ensures { λ r. ⌜ SplicesAs kept start (now (stretch .entry)) r ⌝ }
+pub extern "C" fn blentovar_splice(stored: Record, start: usize, stretch: &[u8]) -> KeptAnswer
+    ensures { λ r. ⌜ SplicesAs stored start (now (stretch .entry)) r ⌝ }
 {
-    let answer = splice::splice(kept, start, stretch);
-    let outcome = answer.outcome;
-    let record = answer.record;
-    let number = sheet::outcome_number(outcome);
-    KeptAnswer { number, record }
+    let kept = kept_of(stored);
+    let given = splice::splice(kept, start, stretch);
+    kept_answer(given)
 }
 
 #[no_mangle]
 pub extern "C" fn blentovar_decode_kept(
-    kept: Kept,
+    stored: Record,
     word: &mut [u8],
     list: &mut [u16],
 ) -> DecodeAnswer
-    ensures { λ r. ⌜ DecodesKeptAs kept (now (word .entry)) (now (list .entry)) r (now (word .exit)) (now (list .exit)) ⌝ }
+    ensures { λ r. ⌜ DecodesKeptAs stored (now (word .entry)) (now (list .entry)) r (now (word .exit)) (now (list .exit)) ⌝ }
 {
-    let answer = decode_kept::decode_kept(kept, word, list);
-    let outcome = answer.outcome;
-    DecodeAnswer {
-        number: sheet::outcome_number(outcome),
-        wrong: answer.wrong,
-    }
+    let kept = kept_of(stored);
+    let given = decode_kept::decode_kept(kept, word, list);
+    decode_answer(given)
 }
 
 #[no_mangle]
@@ -144,14 +233,6 @@ pub extern "C" fn blentovar_make_frame(house: u16, poll: u16, counter: u64, fram
 pub extern "C" fn blentovar_read_frame(frame: &[u8]) -> ReadAnswer
     ensures { λ r. ⌜ ReadsAs (now (frame .entry)) r ⌝ }
 {
-    let answer = frame::read(frame);
-    let outcome = answer.outcome;
-    let reading = answer.reading;
-    ReadAnswer {
-        number: sheet::outcome_number(outcome),
-        house: reading.house,
-        poll: reading.poll,
-        counter: reading.counter,
-        wrong: answer.wrong,
-    }
+    let given = frame::read(frame);
+    read_answer(given)
 }

@@ -11,9 +11,21 @@ use crate::showing::show_bytes;
 use crate::showing::show_decoded;
 use crate::showing::show_lent_bytes;
 use crate::showing::show_number;
+use blentovar::Record;
 use commands::names::Command;
 use commands::numbers::number_at;
-use kept::Kept;
+
+fn sizes(line: u64, numbers: &[usize]) {
+    if numbers.len() != 2 {
+        not_understood(line);
+        return;
+    }
+    let answer = blentovar::blentovar_sizes(number_at(numbers, 0), number_at(numbers, 1));
+    show_number(line, answer.number);
+    print_number(answer.n as u64);
+    print_number(answer.k as u64);
+    end_line();
+}
 
 fn describe_into(line: u64, m: usize, t: usize, generator: &mut [u8])
     requires { ⌜ length (now generator) ≤ 2048 ⌝ }
@@ -126,14 +138,14 @@ fn edit(line: u64, numbers: &[usize], word: &[u8], stretch: &[u8]) {
     edit_copy(line, m, t, start, word, stretch, &mut copy[..n]);
 }
 
-fn decode_kept_into(line: u64, record: Kept, word: &mut [u8], list: &mut [u16])
+fn decode_kept_into(line: u64, record: Record, word: &mut [u8], list: &mut [u16])
     requires { ⌜ (length (now word) ≤ 2048) × (length (now list) ≤ 1024) ⌝ }
 {
     let answer = blentovar::blentovar_decode_kept(record, word, list);
     show_decoded(line, answer, word, list);
 }
 
-fn decode_kept(line: u64, numbers: &[usize], record: Kept) {
+fn decode_kept(line: u64, numbers: &[usize], record: Record) {
     let places = number_at(numbers, 0);
     let listing = number_at(numbers, 1);
     if numbers.len() != 2 || places > 2048 || listing > 1024 {
@@ -194,9 +206,10 @@ pub(crate) fn call(
     numbers: &[usize],
     word: &[u8],
     stretch: &[u8],
-    record: Kept,
+    record: Record,
 ) {
     match command {
+        Command::Sizes => sizes(line, numbers),
         Command::Describe => describe(line, numbers),
         Command::Encode => encode(line, numbers, word),
         Command::Decode => decode(line, numbers, word),

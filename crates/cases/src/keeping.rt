@@ -3,11 +3,11 @@
 use crate::calling::call;
 use crate::showing::not_understood;
 use crate::showing::show_record;
+use blentovar::Record;
 use commands::names::Command;
 use commands::numbers::number_at;
-use kept::Kept;
 
-fn open(line: u64, numbers: &[usize], word: &[u8], record: Kept) -> Kept {
+fn open(line: u64, numbers: &[usize], word: &[u8], record: Record) -> Record {
     if numbers.len() != 2 {
         not_understood(line);
         return record;
@@ -19,7 +19,7 @@ fn open(line: u64, numbers: &[usize], word: &[u8], record: Kept) -> Kept {
     answer.record
 }
 
-fn splice(line: u64, numbers: &[usize], stretch: &[u8], record: Kept) -> Kept {
+fn splice(line: u64, numbers: &[usize], stretch: &[u8], record: Record) -> Record {
     if numbers.len() != 1 {
         not_understood(line);
         return record;
@@ -30,7 +30,7 @@ fn splice(line: u64, numbers: &[usize], stretch: &[u8], record: Kept) -> Kept {
     answer.record
 }
 
-fn with_code(line: u64, numbers: &[usize], record: Kept) -> Kept {
+fn with_code(line: u64, numbers: &[usize], record: Record) -> Record {
     if numbers.len() != 2 {
         not_understood(line);
         return record;
@@ -41,7 +41,7 @@ fn with_code(line: u64, numbers: &[usize], record: Kept) -> Kept {
     changed
 }
 
-fn with_bit(line: u64, numbers: &[usize], record: Kept) -> Kept {
+fn with_bit(line: u64, numbers: &[usize], record: Record) -> Record {
     let place = number_at(numbers, 0);
     let value = number_at(numbers, 1);
     if numbers.len() != 2 || place > 1022 || value > 255 {
@@ -53,7 +53,7 @@ fn with_bit(line: u64, numbers: &[usize], record: Kept) -> Kept {
     changed
 }
 
-fn with_sum(line: u64, numbers: &[usize], record: Kept) -> Kept {
+fn with_sum(line: u64, numbers: &[usize], record: Record) -> Record {
     let place = number_at(numbers, 0);
     let value = number_at(numbers, 1);
     if numbers.len() != 2 || place > 254 || value > 65535 {
@@ -72,8 +72,8 @@ pub(crate) fn keep(
     numbers: &[usize],
     word: &[u8],
     stretch: &[u8],
-    record: Kept,
-) -> Kept {
+    record: Record,
+) -> Record {
     match command {
         Command::Open => open(line, numbers, word, record),
         Command::Splice => splice(line, numbers, stretch, record),

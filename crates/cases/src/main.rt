@@ -1,4 +1,4 @@
-// Runs the calls that stand in a text on standard input, one a line, and writes what each answered. The file stdout is what the second program writes.
+// A test: runs the calls that stand in a text on standard input, one to a line, and writes what each answers; the second program writes the same.
 
 ghost use mathlib.Core.Path.{_≡_};
 ghost use lib.ListN.{length};

@@ -8,27 +8,29 @@ use crate::room;
 use crate::setting::set_all;
 use crate::setting::set_places;
 use crate::showing::not_understood;
+use blentovar::Record;
 use bytes::scan;
 use commands::names::Command;
 use commands::names::command_of;
 use commands::numbers::fill_numbers;
-use kept::Kept;
 
 // How much of the room for words and stretches is lent, and the record.
 struct Bench {
     word: usize,
     stretch: usize,
-    record: Kept,
+    record: Record,
 }
 
 fn nothing_lent() -> Bench
     ensures { λ r. ⌜ (r .word ≤ 2048) × (r .stretch ≤ 2048) ⌝ }
 {
-    let record = Kept {
+    let record = Record {
         m: 0,
         t: 0,
         bits: [0; 1023],
+        zero_after_bits: 0,
         sums: [0; 255],
+        zero_after_sums: 0,
     };
     Bench {
         word: 0,

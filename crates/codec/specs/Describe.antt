@@ -1,4 +1,5 @@
--- Describe: "m, t, a buffer of n-k+1 places for the generator, place i its coefficient of x^i. Gives n and k." Refusals 1, 2, 4.
+-- Describe. docs/SCOPE.md 4.3: "Takes m, t and a buffer of n-k+1 places for the generator, place i its coefficient of x^i. Gives n and k."
+-- 5.2: its checks are 1, 2, 4.
 use mathlib.Core.Path.{_≡_}
 use mathlib.Core.Bool.{not}
 use mathlib.Core.List.{List, [], _∷_}

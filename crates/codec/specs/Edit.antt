@@ -1,5 +1,5 @@
--- Edit: "m, t, a word of n places, a message place, a stretch. The stretch replaces those message bits and the word's own buffer then holds the result."
--- Refusals 1, 2, 3, 12, 5.
+-- Edit. docs/SCOPE.md 4.6: "Takes m, t, a word of n places, a message place and a stretch. The stretch replaces the message bits from that place on,
+-- and the word's own buffer then holds the result." 5.2: its checks are 1, 2, 3, 12, 5.
 use mathlib.Core.Path.{_≡_}
 use mathlib.Core.Bool.{not}
 use mathlib.Core.List.{List, [], _∷_}

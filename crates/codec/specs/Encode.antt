@@ -1,4 +1,5 @@
--- Encode: "m, t, k message bits, a buffer of n places." Refusals 1, 2, 3, 4, 5. "Parity in places 0 to n-k-1, message place i in place n-k+i."
+-- Encode. docs/SCOPE.md 4.4: "Takes m, t, k message bits and a buffer of n places. The buffer then holds the code word that carries the message."
+-- 5.2: its checks are 1, 2, 3, 4, 5.
 use mathlib.Core.Bool.{not}
 use mathlib.Core.List.{List, [], _∷_}
 use Prim.Native.Nat.{ℕ}

@@ -1,3 +1,4 @@
+pub mod Sizes
 pub mod Describe
 pub mod Encode
 pub mod Edit

@@ -1,6 +1,7 @@
-// Describe: n, k and the generator of a listed code.
+// Sizes and Describe: n and k of a listed code, and its generator.
 
 ghost use Rattle.codes.specs.Work.{Checked};
+ghost use Rattle.codec.specs.Sizes.{GivesSizes};
 ghost use Rattle.codec.specs.Describe.{Describes, describeChecks};
 use codes::Look;
 use sheet::Outcome;
@@ -11,6 +12,28 @@ pub struct Described {
     pub outcome: Outcome,
     pub n: usize,
     pub k: usize,
+}
+
+pub fn sizes(m: usize, t: usize) -> Described
+    ensures { λ r. ⌜ GivesSizes m t r ⌝ }
+{
+    let found = codes::look_up(m, t);
+    match found {
+        Look::Passes(code) => {
+            let n = code.n;
+            let k = code.k;
+            Described {
+                outcome: Outcome::Done,
+                n,
+                k,
+            }
+        }
+        Look::Refused(r) => Described {
+            outcome: Outcome::Refused(r),
+            n: 0,
+            k: 0,
+        },
+    }
 }
 
 pub fn describe(m: usize, t: usize, generator: &mut [u8]) -> Described

@@ -1,4 +1,4 @@
-// The operations on words that are sent: Describe, Encode, Edit.
+// The operations on a code and on words that are sent: Sizes, Describe, Encode, Edit.
 
 mod describing;
 mod editing;
@@ -6,5 +6,6 @@ mod encoding;
 
 pub use describing::Described;
 pub use describing::describe;
+pub use describing::sizes;
 pub use editing::edit;
 pub use encoding::encode;

@@ -51,7 +51,7 @@ within-m m e = pick (decLt m 3) (decLt 10 m)
     pick (no n) (yes h) = absurd (clash (m-large (omega arith) h))
     pick (no n) (no p) = record { least = omega arith; most = omega arith }
 
--- and t, by the row that is found for it
+-- t as the code tests it: by the row that is found for it
 pub t-listed : (m t : ℕ) → rowOf m t < first (suc m) → isListed m t ≡ true
 unfolding isListed
 t-listed m t h = lt-ltb (rowOf m t) (first (suc m)) h
@@ -86,7 +86,7 @@ look-unlisted e f = record { is = rw (e, f) }
 pub look-listed : {m t : ℕ} → isField m ≡ true → isListed m t ≡ true → Checked m t noMore (Passes (codeOf m t))
 look-listed e f = record { is = rw (e, f) }
 
--- what passes the first two checks is a listed code, and goes on to the later ones
+-- where all checks pass, (m, t) is a listed code and the later checks pass
 pub record Past (m t : ℕ) (later : Outcome) : Type 0 where
   pub known : Known (codeOf m t)
   pub rest : later ≡ Done
@@ -99,7 +99,7 @@ past m t later e = pick (first-two m t)
     pick (not-listed a b) = absurd (not-done (rw (a, b) at e))
     pick (both-pass a b k) = record { known = k; rest = rw (a, b) at e }
 
--- a listed code passes them
+-- a listed code passes the first two checks
 pub code-passes : {m t : ℕ} → Known (codeOf m t) → (later : List Check) → AllPass later → verdict (codeChecks m t later) ≡ Done
 code-passes {m} {t} K later p =
     none-refuses (codeChecks m t later) (ap not (m-within (K .of-m .listed)), (ap not (listed-test (known-listed K)), p))

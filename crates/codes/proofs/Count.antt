@@ -27,7 +27,7 @@ count-nearly-all f (hit p x) = omega (arith, count-nearly-all (λ y l h. f y l (
 count-nearly-all f (miss {n = zero} p x) = omega arith
 count-nearly-all f (miss {n = suc n} p x) = absurd (p (f (suc n) (omega arith) (omega arith)))
 
--- what P has and Q has not
+-- the numbers that have P and do not have Q
 pub count-rest : {P Q R : ℕ → Type 0} {n a b : ℕ} → ((x : ℕ) → x < n → Q x → P x) → ((x : ℕ) → x < n → R x ↔ P x × (Q x → ⊥))
     → Count P n a → Count Q n b → (c : ℕ) × (b + c ≡ a) × Count R n c
 count-rest f g none none = (0, omega arith, none)
@@ -60,7 +60,7 @@ raised : {P : ℕ → Type 0} {n c : ℕ} (b : Bool) → T b ↔ P n → Count P
 raised true e x = hit (e .0 tt) x
 raised false e x = miss (e .1) x
 
--- f is computed once for each number, the test of it as often as wanted
+-- f is computed once for each number, and its values may be tested as often as wanted
 pub count-computed : {P : ℕ → Type 0} (f : ℕ → ℕ) (test : ℕ → Bool) (n : ℕ) → ((x : ℕ) → x < n → T (test (f x)) ↔ P x)
     → Count P n (passing test (down f n))
 count-computed f test zero e = none

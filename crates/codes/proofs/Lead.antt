@@ -50,7 +50,7 @@ abbrev pub least : ℕ → ℕ → ℕ → ℕ
 least n zero x = x
 least n (suc left) x = min x (least n left (2 * x % n))
 
--- for 0 that is n itself
+-- the lead of r; for 0 it is n
 unfoldable pub lead : ℕ → ℕ → ℕ
 lead m zero = nOf m
 lead m (suc r) = least (nOf m) m (suc r)
@@ -113,7 +113,7 @@ lead-least m i j zero l h e = pick (decLe (nOf m) i)
 lead-least m i j (suc r) l h e =
     le-trans (least-always m (suc r) l (rw (← e) (mod-lt (i * 2 ^ j) (n-positive m l))) (j * (m - 1))) (rw (back m i j (suc r) l e) (mod-le i (nOf m)))
 
--- and the lead does
+-- the lead reaches r
 pub lead-reaches : (m r : ℕ) → 1 ≤ m → r < nOf m → (j : ℕ) × (lead m r * 2 ^ j % nOf m ≡ r)
 unfolding lead
 lead-reaches m zero l h = (0, rw (mul-one (nOf m), mod-self (nOf m)))

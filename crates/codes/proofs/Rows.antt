@@ -75,7 +75,7 @@ row-unique {m} {r} {r′} v w e = pick (decLt r r′) (decLt r′ r)
     pick (no p) (yes q) = absurd (omega (arith, rows-ascend m r′ r w v q))
     pick (no p) (no q) = omega arith
 
--- the rule holds of the row before, also where that is n and 0
+-- the count of the rule holds for the row before, also where n and 0 stand for it
 pub before-count : {m r : ℕ} → RowOf m r → Count (Residue (nOf m) (before-t m r)) (nOf m) (nOf m - before-k m r)
 before-count {m} {r} w = pick (row-before w)
   where
@@ -85,7 +85,7 @@ before-count {m} {r} w = pick (row-before w)
         rw (f, g, z) (count-nothing (nOf m) (λ x v. omega (arith, v .least, v .most)))
     pick (after u e f g) = rw (f, g) (right-row-at u .count)
 
--- twice the t before, and one, is the least of its class
+-- 2s + 1 is the least of its class, s being the t of the row before
 pub before-free : {m r : ℕ} → RowOf m r → lead m (2 * before-t m r + 1) ≡ 2 * before-t m r + 1
 before-free {m} {r} w = pick (row-before w)
   where

@@ -90,14 +90,14 @@ module _ {m : ℕ} (L : IsField m) where
   bit-bound : {x : ℕ} → x ≤ 1 → x < 2 ^ m
   bit-bound h = omega (arith, one-bound L)
 
-  -- a bit slides past a product
+  -- a bit that multiplies a product may multiply its second factor instead
   bit-slides : (x y z : ℕ) → x ≤ 1 → x * (y ⊗⟨ m ⟩ z) ≡ y ⊗⟨ m ⟩ (x * z)
   bit-slides x y z h = bit-cases (λ x. x * (y ⊗⟨ m ⟩ z) ≡ y ⊗⟨ m ⟩ (x * z)) (simp (zero-mul, product-zero)) (simp one-mul) x h
 
   bit-square : (x : ℕ) → x ≤ 1 → x ⊗⟨ m ⟩ x ≡ x
   bit-square x h = bit-cases (λ x. x ⊗⟨ m ⟩ x ≡ x) (zero-product m 0) (one-product L 1 (one-bound L)) x h
 
-  -- to count the places from k further on multiplies by a^(k*j)
+  -- counting the places from k further on multiplies the sum by a^(k*j)
   sumFrom-later : (j k i : ℕ) (xs : List ℕ) → AreBits xs → sumFrom m j (k + i) xs ≡ power m a (k * j) ⊗⟨ m ⟩ sumFrom m j i xs
   sumFrom-later j k i [] b = sumFrom-nil m j (k + i) ∙ sym (ap (λ z. power m a (k * j) ⊗⟨ m ⟩ z) (sumFrom-nil m j i) ∙ product-zero m (power m a (k * j)))
   sumFrom-later j k i (x ∷ xs) b =
@@ -109,7 +109,7 @@ module _ {m : ℕ} (L : IsField m) where
       ∙ sym (product-over m (power m a (k * j)) (x * power m a (i * j)) (sumFrom m j (suc i) xs))
       ∙ sym (ap (λ z. power m a (k * j) ⊗⟨ m ⟩ z) (sumFrom-cons m j i x xs))
 
-  -- by the first place, the others one step of a^j further on
+  -- the sum by its first place: the sum of the other places is multiplied by a^j
   pub sum-cons : (j x : ℕ) (xs : List ℕ) → AreBits (x ∷ xs) → sumOf m j (x ∷ xs) ≡ x ⊕ power m a j ⊗⟨ m ⟩ sumOf m j xs
   sum-cons j x xs b =
       let later : sumFrom m j 1 xs ≡ power m a (1 * j) ⊗⟨ m ⟩ sumFrom m j 0 xs = sumFrom-later j 1 0 xs (bits-tail b) in

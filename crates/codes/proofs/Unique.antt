@@ -28,7 +28,7 @@ use Rattle.codes.proofs.Count.{members, members-distinct}
 use Rattle.codes.proofs.Walk.{right-row-at}
 use Rattle.codes.proofs.SumLaws.{added-place, sumOf-nil, sum-none, sum-cons, sum-added, sum-class}
 
--- d different residues, of which the sums of a code word are 0
+-- d different residues of t; the sums of a code word at them are 0
 pub record Roots (m t d : ℕ) (rs : List ℕ) : Type 0 where
   pub long : length rs ≡ d
   pub differ : (i j : ℕ) → i < j → j < d → getD rs i 0 ≢ getD rs j 0

@@ -38,7 +38,7 @@ rowTests m leads kb s k t =
     ∷ eqb (passing (λ x. leb x (2 * t)) leads) (nOf m - k)
     ∷ []
 
--- so many rows, and then none any more
+-- the tests of so many rows, and that no t is free after the last of them
 abbrev walk : ℕ → List ℕ → ℕ → ℕ → ℕ → List ℕ → List ℕ → Bool
 walk m leads zero kb s kl tl = noneFree m (suc s) (nOf m / 2 - suc s)
 walk m leads (suc left) kb s [] tl = false

@@ -1,4 +1,4 @@
--- What it is to carry a message: "parity in places 0 to n-k-1, message place i in place n-k+i".
+-- What it is to carry a message. docs/SCOPE.md 3.5: "parity in places 0 to n-k-1, message place i in place n-k+i".
 use mathlib.Core.Path.{_≡_}
 use mathlib.Core.List.{List}
 use Prim.Native.Nat.{ℕ, _+_, _-_, _<_}

@@ -1,4 +1,4 @@
--- Looking a code up: the field sizes, the row of a listed t, its k.
+-- Looking a code up: the field sizes, the row of a listed t, its k. docs/SCOPE.md 5.1: "m is not 3 to 10", "t is not listed for m".
 use mathlib.Core.Bool.{Bool, cond, not, _&&_}
 use mathlib.Core.List.{List, _∷_}
 use Prim.Native.Nat.{ℕ, zero, suc, _-_}
@@ -15,7 +15,7 @@ use Rattle.codes.specs.declared.Code.{Code}
 abbrev pub isField : ℕ → Bool
 isField m = leb 3 m && leb m 10
 
--- the first of the rows from row r on, so many of them, that has t; the row after them where none has
+-- the first row that has t among so many rows from row r on; the row after them where none has it
 unfoldable pub rowFrom : ℕ → ℕ → ℕ → ℕ
 rowFrom zero r t = r
 rowFrom (suc left) r t = cond (eqb (getD ts r 0) t) r (rowFrom left (suc r) t)
@@ -39,11 +39,11 @@ codeOf m t = record { m = m; t = t; row = rowOf m t; n = nOf m; k = kOf m t }
 abbrev pub codeChecks : ℕ → ℕ → List Check → List Check
 codeChecks m t later = (not (isField m) ⇒ FieldSize) ∷ (not (isListed m t) ⇒ NotListed) ∷ later
 
--- what the first two checks and then those that an operation makes of the code come to
+-- what the first two checks, and then the operation's own checks of the code, come to
 abbrev pub codeVerdict : ℕ → ℕ → (Code → List Check) → Outcome
 codeVerdict m t checks = verdict (codeChecks m t (checks (codeOf m t)))
 
--- the promise of an operation on a code: its own checks, and what it does, are said of the code
+-- the promise of an operation on a code: its own checks and what it does depend on the code
 pub record CodePromise {L : Type 0} (m t : ℕ) (checks : Code → List Check) (Does : Code → Outcome → L → Type 0) (stays : L) (answer : Outcome)
     (left : L) : Type 0 where
   pub promise : Promise (codeChecks m t (checks (codeOf m t))) (Does (codeOf m t)) stays answer left

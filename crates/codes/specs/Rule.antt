@@ -1,5 +1,5 @@
--- The rule of the list: n - k is the number of different residues i * 2^j mod n with i from 1 to 2t and j from 0;
--- 2t + 1 mod n is none of these; t is at least 1 and k at least 2.
+-- The rule of the list. docs/SCOPE.md 3.4: "n - k is the number of different residues i * 2^j mod n with i from 1 to 2t and j from 0";
+-- "2t + 1 mod n is none of these"; "t is at least 1 and k at least 2".
 use mathlib.Core.Path.{_≡_}
 use Prim.Native.Nat.{ℕ, suc, _+_, _-_, _*_, _%_, _^_, _≤_}
 use Rattle.field.specs.Power.{nOf}

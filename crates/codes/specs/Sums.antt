@@ -1,4 +1,4 @@
--- The sums of a word, and what a code word is.
+-- The sums of a word, and what a code word is. docs/SCOPE.md 3.1: "S_j is the field sum of a^(i*j) over the places i that hold 1."
 use mathlib.Core.Path.{_≡_}
 use mathlib.Core.List.{List, [], _∷_}
 use Prim.Native.Nat.{ℕ, suc, _*_, _≤_}
@@ -21,7 +21,7 @@ unfoldable pub sumOver : ℕ → ℕ → List ℕ → ℕ
 sumOver m j [] = 0
 sumOver m j (p ∷ ps) = power m a (p * j) ⊕ sumOver m j ps
 
--- "The code for (m, t) is every list of n bits c with c(a^j) = 0 for j = 1 to 2t"
+-- docs/SCOPE.md 3.2: "The code of (m, t) is every list of n bits c with c(a^j) = 0 for j = 1 to 2t."
 pub record CodeWord (m t : ℕ) (c : List ℕ) : Type 0 where
   pub long : length c ≡ nOf m
   pub bits : AreBits c

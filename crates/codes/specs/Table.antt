@@ -1,4 +1,4 @@
--- The listed codes: k and t of each, a block for each m as in the printed list, t upward.
+-- The listed codes: k and t of each, a block for each m, t upward. docs/SCOPE.md 3.4: "The code holds them as a constant table of k and t".
 use mathlib.Core.List.{List, [], _∷_, map}
 use Prim.Native.Nat.{ℕ, _-_}
 use lib.ListN.{getD}

@@ -26,7 +26,7 @@ pub enum Look {
     Refused(Refusal),
 }
 
-// The row from `from` up to, not including, `to` that has t, or `to` where none has.
+// The row that has t, from `from` up to, not including, `to`; and `to` if none has it.
 fn find_row(ts: &[u16], from: usize, to: usize, t: usize) -> usize
     requires { ⌜ (now ts ≡ Table·ts) × (from ≤ to) × (to ≤ 232) ⌝ }
     ensures { λ r. ⌜ r ≡ rowFrom (to - from) from t ⌝ }

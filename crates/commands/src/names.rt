@@ -9,6 +9,7 @@ pub enum Command {
     Code,
     Bit,
     Sum,
+    Sizes,
     Describe,
     Encode,
     Decode,
@@ -22,6 +23,9 @@ pub enum Command {
 }
 
 fn call_of(name: &[u8]) -> Command {
+    if same(name, b"sizes") {
+        return Command::Sizes;
+    }
     if same(name, b"describe") {
         return Command::Describe;
     }

@@ -78,7 +78,7 @@ pub wrong-places : {c : Code} {count : ℕ} {received : List ℕ} {s : Search} �
     → (count ≤ 255) × WrongPlaces c received (take count (s .places))
 wrong-places w e = let p = told-places (w .searched) e in (p .0, record { sums = w .sums; of-received = w .of-word; located = p .1 })
 
--- nothing is near
+-- no code word is within t
 pub none-near : {c : Code} {received lentWord lentList : List ℕ} {s : Search} {answer : Decoded} → DecodeReady c received lentWord lentList
     → WordSearched (c .m) (c .t) received s → s .answer ≡ Nothing → (answer .outcome ≡ Refused NothingNear) × (answer .wrong ≡ 0)
     → MendsWithin c (c .t) received lentWord lentList (answer .outcome) (leftBy answer lentWord lentList)

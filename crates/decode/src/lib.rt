@@ -13,7 +13,7 @@ use locate::Found;
 use sheet::Outcome;
 use sheet::Refusal;
 
-// So many places were wrong; 0 beside a refusal.
+// `wrong` is the number of wrong places, and 0 beside a refusal.
 pub struct Decoded {
     pub outcome: Outcome,
     pub wrong: usize,
@@ -29,7 +29,7 @@ pub fn decode(m: usize, t: usize, received: &[u8], word: &mut [u8], list: &mut [
     }
 }
 
-// A refusal, with no number beside it but 0.
+// A refusal, with 0 as the number beside it.
 pub fn refused(r: Refusal) -> Decoded
     ensures { λ d. ⌜ (d .outcome ≡ Refused r) × (d .wrong ≡ 0) ⌝ }
 {
@@ -77,7 +77,7 @@ fn mend_received(code: Code, received: &[u8], word: &mut [u8], list: &mut [u16])
     }
 }
 
-// The same for the first `count` of the places.
+// Mends the received word at the first `count` of the places.
 fn put_first(
     code: Code,
     places: &[u16],
@@ -93,7 +93,7 @@ fn put_first(
     put(code, &places[..count], received, word, list)
 }
 
-// The word with these places turned over, and the list.
+// Writes the received word with these places turned over, and the list.
 fn put(code: Code, places: &[u16], received: &[u8], word: &mut [u8], list: &mut [u16]) -> Decoded
     requires { ⌜ DecodeReady code (now received) (now word) (now list) × WrongPlaces code (now received) (now places) ⌝ }
     ensures { λ r. ⌜ MendsWithin code (code .t) (now (received .entry)) (now (word .entry)) (now (list .entry)) (r .outcome)

@@ -1,6 +1,6 @@
--- Decode kept: "kept record and the two buffers of Decode. It finds the set of at most t places below n whose sums are the stored ones, which is unique if
--- there is one, and flips these in the stored bits; the mended word, the list and the number of wrong places are given as in Decode." Refusals 1, 2, 7, 4, 6;
--- 6 exactly if there is no such set.
+-- Decode kept. docs/SCOPE.md 4.10: "Takes a kept record and the two buffers of Decode. It finds the set of at most t places below n whose sums are the
+-- stored ones, which is unique if there is one, and flips these in the stored bits. The mended word, the list and the number of wrong places are given as
+-- in Decode." 5.2: its checks are 1, 2, 7, 4, 6.
 use mathlib.Core.Path.{_≡_}
 use mathlib.Core.Bool.{not}
 use mathlib.Core.List.{List, [], _∷_, _++_}
@@ -26,7 +26,7 @@ decodeKeptChecks stored word list c =
     ∷ not (eqb (length list) (c .t)) ⇒ OutputLength
     ∷ []
 
--- places with the stored sums, flipped in the stored bits and listed, then zeros; the number is how many these are
+-- places with the stored sums are flipped in the stored bits; the list has them, then zeros; the number is how many they are
 pub record MendsKept (c : Code) (stored : Kept) (left : Mended) : Type 0 where
   pub places : List ℕ
   pub located : Located (c .m) (c .t) (stored .sums) places

@@ -22,6 +22,7 @@ use Rattle.codes.specs.Encoding.{Encoding}
 use Rattle.generator.specs.Minimal.{Minimal}
 use Rattle.generator.proofs.MinimalLaws.{minimal-is, minimal-one}
 use Rattle.codec.specs.declared.describing.Described.{Described}
+use Rattle.codec.specs.Sizes.{GivesSizes}
 use Rattle.codec.specs.Describe.{Describes}
 use Rattle.codec.specs.Encode.{Encodes}
 use Rattle.codec.specs.Edit.{Edits}
@@ -40,9 +41,9 @@ use Rattle.maker.specs.Making.{allLines, GiveAll}
 use Rattle.demands.specs.Words.{OneOutcome, OneCondition, RefusedStays, NeverLookedAt}
 use Rattle.demands.specs.Words.{Numbered, GaloisField, Divides, LeastCommonMultiple, Received, After, resulting, Elsewhere, editedMessage, OnlyStretch}
 use Rattle.demands.specs.Words.{joined, EndsShort, MakingRun}
-use Rattle.demands.proofs.TheCode.{checks-by-rule, k-by-rule, codes-in-number, the-field, all-ones}
+use Rattle.demands.proofs.TheCode.{checks-by-rule, k-by-rule, codes-in-number, sizes-by-rule, sizes-n, sizes-as-described, the-field, all-ones}
 use Rattle.demands.proofs.TheCode.{generator-is-lcm, lcm-is-generator, code-by-generator}
-use Rattle.demands.proofs.OneOutcome.{describe-one, encode-one, encode-sends}
+use Rattle.demands.proofs.OneOutcome.{sizes-one, describe-one, encode-one, encode-sends}
 use Rattle.demands.proofs.Near.{decode-one, decode-received}
 use Rattle.demands.proofs.EditOutcome.{edit-one, edit-encodes, edit-as-encoded, edit-only}
 use Rattle.demands.proofs.KeptOutcome.{open-one, splice-one, decode-kept-one, splice-refused, splice-only}
@@ -53,7 +54,7 @@ use Rattle.demands.proofs.TypedOutcome.{typed-one}
 use Rattle.demands.proofs.MakingOutcome.{give-all-one, run-gives}
 use Rattle.demands.proofs.Exactly.{decode-refused, decode-nothing, decode-never-8, read-refused, read-nothing, read-never-8}
 use Rattle.demands.proofs.Exactly.{decode-kept-refused, decode-kept-nothing, decode-kept-never-8}
-use Rattle.demands.proofs.Stays.{describe-stays, decode-stays, decode-kept-stays, read-stays}
+use Rattle.demands.proofs.Stays.{sizes-stays, describe-stays, decode-stays, decode-kept-stays, read-stays}
 use Rattle.demands.proofs.Lent.{describe-lent, encode-lent, decode-lent, decode-kept-lent, make-lent}
 
 pair : {A B : Type 0} {a a′ : A} {b b′ : B} → (a ≡ a′) × (b ≡ b′) → _≡_ {A = A × B} (a, b) (a′, b′)
@@ -62,11 +63,12 @@ pair (e, f) = ap₂ (λ x y. (x, y)) e f
 triple : {A B C : Type 0} {a a′ : A} {b b′ : B} {c c′ : C} → (a ≡ a′) × (b ≡ b′) × (c ≡ c′) → _≡_ {A = A × B × C} (a, b, c) (a′, b′, c′)
 triple {a′ = a′} {b′ = b′} {c = c} (e, f, g) = ap₂ (λ x y. (x, y, c)) e f ∙ ap (λ z. (a′, b′, z)) g
 
--- "1. Every operation ends and answers for every input and checks its input itself." That it ends, and that nothing is asked of its input, is the
+-- docs/SCOPE.md 9: "Every operation ends and answers for every input and checks its input itself." That it ends, and that nothing is asked of its input, is the
 -- language's: no operation has a requires. Its promise leaves one outcome: the answer and every place of every buffer, refusals too.
 pub demand-1 : OneOutcome
 demand-1 =
     record {
+      sizes = λ m t x y p q. sizes-one p q;
       describe = λ m t lent x y p q. pair (describe-one p q);
       encode = λ m t message lent x y p q. pair (encode-one p q);
       decode = λ m t received lentWord lentList x y p q. triple (decode-one p q);
@@ -80,13 +82,14 @@ demand-1 =
       read-line = λ line x y p q. typed-one line x y p q;
     }
 
--- "Each refusal has one number and one condition;"
+-- docs/SCOPE.md 9: "Each refusal has one number and one condition;"
 pub demand-1-numbers : {r s : Refusal} → numberOf r ≡ numberOf s → r ≡ s
 demand-1-numbers e = number-tells e
 
 pub demand-1-conditions : OneCondition
 demand-1-conditions =
     record {
+      sizes = λ p. answer-is (p .promise);
       describe = λ p. answer-is (p .promise);
       encode = λ p. answer-is (p .promise);
       decode = λ p r. decode-refused p r;
@@ -98,11 +101,12 @@ demand-1-conditions =
       read-frame = λ frame p r. read-refused frame p r;
     }
 
--- "what it returns and what stays in each lent buffer is written down." A refusal leaves everything, and what an output buffer held before is never
--- looked at.
+-- docs/SCOPE.md 9: "what it returns and what stays in each lent buffer is written down." A refusal leaves everything, and what an output buffer
+-- held before is never looked at.
 pub demand-1-refused : RefusedStays
 demand-1-refused =
     record {
+      sizes = λ p n. sizes-stays p n;
       describe = λ p n. describe-stays p n;
       encode = λ p n. refused-stays (λ a z. always-stays a z) (p .promise) n;
       decode = λ p n. decode-stays p n;
@@ -124,8 +128,8 @@ demand-1-lent =
       make-frame = λ same p q. make-lent same p q;
     }
 
--- "2. The code is the binary narrow-sense BCH code, fields of 8 to 1,024 elements, the 232 listed codes." Checks 1 and 2 pass exactly for these:
--- m is from 3 to 10 and the rule holds of t with some k, and that k is the one of every promise.
+-- docs/SCOPE.md 9: "The code is the binary narrow-sense BCH code, fields of 8 to 1,024 elements, the 232 listed codes." Checks 1 and 2 pass exactly for
+-- these: m is from 3 to 10 and the rule holds of t with some k, and that k is the one of every promise.
 pub demand-2-listed : (m t : ℕ) → (verdict (codeChecks m t []) ≡ Done) ↔ (IsField m × ((k : ℕ) × Rule m k t))
 demand-2-listed m t = checks-by-rule m t
 
@@ -134,6 +138,16 @@ demand-2-k L R = k-by-rule L R
 
 pub demand-2-number : Numbered (λ (m t : ℕ). verdict (codeChecks m t []) ≡ Done) 232
 demand-2-number = codes-in-number
+
+-- Sizes tells them: it is done and gives k exactly if the rule holds, n is 2^m - 1, and Describe answers the same.
+pub demand-2-sizes : {m t : ℕ} {x : Described} → GivesSizes m t x → (k : ℕ) → ((x .outcome ≡ Done) × (x .k ≡ k)) ↔ (IsField m × Rule m k t)
+demand-2-sizes p k = sizes-by-rule p k
+
+pub demand-2-n : {m t : ℕ} {x : Described} → GivesSizes m t x → x .outcome ≡ Done → x .n ≡ nOf m
+demand-2-n p e = sizes-n p e
+
+pub demand-2-described : {m t : ℕ} {lent left : List ℕ} {x y : Described} → GivesSizes m t x → Describes m t lent y left → y .outcome ≡ Done → x ≡ y
+demand-2-described p q e = sizes-as-described p q e
 
 -- The field has 2^m elements, every nonzero one has its inverse, and a has order n and no smaller one.
 pub demand-2-field : {m : ℕ} → IsField m → GaloisField m
@@ -161,17 +175,17 @@ demand-2-multiples p e c = code-by-generator p e c
 pub demand-2-all-ones : {m t : ℕ} → verdict (codeChecks m t []) ≡ Done → CodeWord m t (replicate (nOf m) 1)
 demand-2-all-ones e = all-ones e
 
--- "Sending gives the one code word that carries the message in its top places."
+-- docs/SCOPE.md 9: "Sending gives the one code word that carries the message in its top places."
 pub demand-2-sending : {m t : ℕ} {message lent left : List ℕ} {x : Outcome} → Encodes m t message lent x left → x ≡ Done
     → Encoding m t (kOf m t) message left × ((c : List ℕ) → Encoding m t (kOf m t) message c → c ≡ left)
 demand-2-sending p e = encode-sends p e
 
--- "Receiving gives the code word within t changed bits of what came in, with those places listed upward,"
+-- docs/SCOPE.md 9: "Receiving gives the code word within t changed bits of what came in, with those places listed upward,"
 pub demand-2-receiving : {m t : ℕ} {received lentWord lentList word list : List ℕ} {x : Decoded} → Decodes m t received lentWord lentList x word list
     → x .outcome ≡ Done → Received m t received (x .wrong) word list
 demand-2-receiving p e = decode-received p e
 
--- "and refuses for want of one exactly when there is none." Decode, Decode kept, and reading a frame.
+-- docs/SCOPE.md 9: "and refuses for want of one exactly when there is none." Decode, Decode kept, and reading a frame.
 pub demand-2-refusing : {m t : ℕ} {received lentWord lentList word list : List ℕ} {x : Decoded} → Decodes m t received lentWord lentList x word list
     → (x .outcome ≡ Refused NothingNear) ↔ ((codeVerdict m t (decodeChecks received lentWord lentList) ≡ Done) × Far m t t received)
 demand-2-refusing p = decode-nothing p
@@ -197,8 +211,8 @@ demand-2-never-8-kept p = decode-kept-never-8 p
 pub demand-2-never-8-frame : (frame : List ℕ) {x : ReadFrame} → Reads frame x → x .outcome ≢ Refused SecondCheck
 demand-2-never-8-frame frame p = read-never-8 frame p
 
--- "3. After an accepted Open and any list of splices, refused ones among them, decoding what is kept answers as 2 does for the resulting bits taken afresh;"
--- the record is the very one that Open gives for these bits.
+-- docs/SCOPE.md 9: "After an accepted Open and any list of splices, refused ones among them, decoding what is kept answers as 2 does for the
+-- resulting bits taken afresh;" the record is the very one that Open gives for these bits.
 pub demand-3-record : {m t : ℕ} {word : List ℕ} {x y : Answer} {stored : Kept} (splices : List (ℕ × List ℕ)) → Opens m t word x → x .outcome ≡ Done
     → After (x .record) splices stored → Opens m t (resulting word splices) y → (y .outcome ≡ Done) × (stored ≡ y .record)
 demand-3-record splices o e a q = kept-as-opened splices o e a q
@@ -209,7 +223,7 @@ pub demand-3-keeping : {m t : ℕ} {word lentWord lentList word₁ list₁ word�
     → (y ≡ z) × (word₁ ≡ word₂) × (list₁ ≡ list₂)
 demand-3-keeping splices o e a p q = kept-as-decoded splices o e a p q
 
--- "an accepted splice changes only what it names and the sums, a refused one nothing."
+-- docs/SCOPE.md 9: "an accepted splice changes only what it names and the sums, a refused one nothing."
 pub demand-3-splicing : {stored : Kept} {start : ℕ} {stretch : List ℕ} {x : Answer} → Splices stored start stretch x
     → Elsewhere stored start (start + length stretch) (x .record)
 demand-3-splicing p = splice-only p
@@ -222,7 +236,8 @@ pub demand-3-whole : {m t : ℕ} {word stretch : List ℕ} {x y z : Answer} {sto
     → x .outcome ≡ Done → After (x .record) splices stored → Splices stored 0 stretch y → Opens m t stretch z → z .outcome ≡ Done → y ≡ z
 demand-3-whole splices o e a p q f = whole-splice splices o e a p q f
 
--- "A sent word whose message is edited becomes the encoding of the edited message;" which is what an accepted Encode of that message leaves in its buffer,
+-- docs/SCOPE.md 9: "A sent word whose message is edited becomes the encoding of the edited message;" which is what an accepted Encode of that message
+-- leaves in its buffer,
 pub demand-3-editing : {m t start : ℕ} {lent stretch left : List ℕ} {x : Outcome} → CodeWord m t lent → Edits m t lent start stretch x left → x ≡ Done
     → Encoding m t (kOf m t) (editedMessage m t lent start stretch) left
 demand-3-editing C p e = edit-encodes C p e
@@ -231,7 +246,7 @@ pub demand-3-encoded : {m t start : ℕ} {lent stretch left lent′ left′ : Li
     → x ≡ Done → Encodes m t (editedMessage m t lent start stretch) lent′ y left′ → y ≡ Done → left ≡ left′
 demand-3-encoded C p e q f = edit-as-encoded C p e q f
 
--- "only the stretch and the parity change."
+-- docs/SCOPE.md 9: "only the stretch and the parity change."
 pub demand-3-only : {m t start : ℕ} {lent stretch left : List ℕ} {x : Outcome} → Edits m t lent start stretch x left
     → OnlyStretch m t lent start (start + length stretch) left
 demand-3-only p = edit-only p

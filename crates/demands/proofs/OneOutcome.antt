@@ -1,4 +1,4 @@
--- Every promise leaves one outcome: two outcomes that it allows for the same input are the same answer and the same buffers. Here Describe and Encode.
+-- Every promise leaves one outcome: two outcomes that it allows for the same input are the same answer and the same buffers. Here Sizes, Describe and Encode.
 use mathlib.Core.Path.{_≡_, _∙_, sym, ap, ap₂, subst}
 use mathlib.Core.List.{List}
 use Prim.Native.Nat.{ℕ, _+_, _-_, _≤_, _<_}
@@ -19,6 +19,7 @@ use Rattle.codes.proofs.Rows.{row-facts}
 use Rattle.codes.proofs.Unique.{Roots, one-code-word, roots-of-row}
 use Rattle.generator.proofs.GeneratorLaws.{one-generator}
 use Rattle.codec.specs.declared.describing.Described.{Described}
+use Rattle.codec.specs.Sizes.{GivesSizes, SizesGiven, SizesOf}
 use Rattle.codec.specs.Describe.{Describes, Description, DescriptionOf}
 use Rattle.codes.specs.Encoding.{Encoding}
 use Rattle.codec.specs.Encode.{Encodes, encodeChecks}
@@ -38,14 +39,30 @@ description-one {c} {x} {y} K p q =
     of : ℕ → ℕ → List ℕ → Description
     of n k generator = record { n = n; k = k; generator = generator }
 
-pub describe-one : {m t : ℕ} {lent left left′ : List ℕ} {x y : Described} → Describes m t lent x left → Describes m t lent y left′ → (x ≡ y) × (left ≡ left′)
-describe-one {x = x} {y} p q =
-    let o = code-one (λ c K z a b. always-one (description-one K) a b) p q in
-    let values = ap₂ (λ (n k : ℕ). of (x .outcome) n k) (ap (λ (d : Description). d .n) (o .1)) (ap (λ (d : Description). d .k) (o .1)) in
-    (values ∙ ap (λ (a : Outcome). of a (y .n) (y .k)) (o .0), ap (λ (d : Description). d .generator) (o .1))
+-- an answer is its outcome, its n and its k
+pub answered-one : {x y : Described} → x .outcome ≡ y .outcome → x .n ≡ y .n → x .k ≡ y .k → x ≡ y
+answered-one {x} {y} o n k = ap₂ (of (x .outcome)) n k ∙ ap (λ (a : Outcome). of a (y .n) (y .k)) o
   where
     of : Outcome → ℕ → ℕ → Described
     of outcome n k = record { outcome = outcome; n = n; k = k }
+
+given-one : {c : Code} {x y : SizesGiven} → SizesOf c x → SizesOf c y → x ≡ y
+given-one p q = ap₂ of (p .is-n ∙ sym (q .is-n)) (p .is-k ∙ sym (q .is-k))
+  where
+    of : ℕ → ℕ → SizesGiven
+    of n k = record { n = n; k = k }
+
+pub sizes-one : {m t : ℕ} {x y : Described} → GivesSizes m t x → GivesSizes m t y → x ≡ y
+sizes-one p q =
+    let (o, given) = code-one (λ c K z a b. always-one given-one a b) p q in
+    answered-one o (ap (λ (g : SizesGiven). g .n) given) (ap (λ (g : SizesGiven). g .k) given)
+
+pub describe-one : {m t : ℕ} {lent left left′ : List ℕ} {x y : Described} → Describes m t lent x left → Describes m t lent y left′ → (x ≡ y) × (left ≡ left′)
+describe-one p q =
+    let (o, given) = code-one (λ c K z a b. always-one (description-one K) a b) p q in (
+      answered-one o (ap (λ (d : Description). d .n) given) (ap (λ (d : Description). d .k) given),
+      ap (λ (d : Description). d .generator) given,
+    )
 
 -- two encodings of one message agree at every place of the message
 same-top : {m t k : ℕ} {message c d : List ℕ} → k ≤ nOf m → Encoding m t k message c → Encoding m t k message d

@@ -6,6 +6,7 @@ use Prim.Native.Nat.{ℕ}
 use Rattle.sheet.specs.declared.Outcome.the-variants.{Done}
 use Rattle.sheet.proofs.VerdictLaws.{refused-stays, always-stays, search-stays}
 use Rattle.codec.specs.declared.describing.Described.{Described}
+use Rattle.codec.specs.Sizes.{GivesSizes, SizesGiven}
 use Rattle.codec.specs.Describe.{Describes, Description}
 use Rattle.decode.specs.declared.Decoded.{Decoded}
 use Rattle.decode.specs.Decode.{Decodes, Mended, asLent, leftBy}
@@ -14,6 +15,11 @@ use Rattle.decode_kept.specs.DecodeKept.{DecodesKept}
 use Rattle.layout.specs.Frame.{wordOf}
 use Rattle.frame.specs.declared.reading.ReadFrame.{ReadFrame}
 use Rattle.frame.specs.Read.{Reads, ReadsReceived, near, far, givenBy, zeros}
+
+pub sizes-stays : {m t : ℕ} {x : Described} → GivesSizes m t x → x .outcome ≢ Done → (x .n ≡ 0) × (x .k ≡ 0)
+sizes-stays p n =
+    let e = refused-stays (λ a z. always-stays a z) (p .promise) n in
+    (ap (λ (g : SizesGiven). g .n) e, ap (λ (g : SizesGiven). g .k) e)
 
 pub describe-stays : {m t : ℕ} {lent left : List ℕ} {x : Described} → Describes m t lent x left → x .outcome ≢ Done → (x .n ≡ 0) × (x .k ≡ 0) × (left ≡ lent)
 describe-stays p n =

@@ -9,7 +9,7 @@ use borrow.Author.Tests.{not-false}
 use lib.ListN.{length, getD, replicate, length-replicate, List·getD-eq-default}
 use Rattle.sheet.specs.declared.Outcome.the-variants.{Done}
 use Rattle.sheet.specs.Verdict.{verdict}
-use Rattle.sheet.proofs.VerdictLaws.{all-pass, none-refuses, done-passed}
+use Rattle.sheet.proofs.VerdictLaws.{all-pass, none-refuses, answer-is, done-passed}
 use Rattle.bits.specs.Bits.{AreBits}
 use Rattle.bits.proofs.BitLaws.{bits-ones}
 use Rattle.field.specs.Product.{IsField}
@@ -38,9 +38,10 @@ use Rattle.generator.proofs.Divisors.{divisors-same}
 use Rattle.generator.proofs.Multiple.{multiple, multiple-root}
 use Rattle.generator.proofs.MinimalLaws.{minimal-is, root-multiple}
 use Rattle.codec.specs.declared.describing.Described.{Described}
+use Rattle.codec.specs.Sizes.{GivesSizes}
 use Rattle.codec.specs.Describe.{Describes, describeChecks}
 use Rattle.demands.specs.Words.{Numbered, GaloisField, Divides, CommonMultiple, LeastCommonMultiple}
-use Rattle.demands.proofs.OneOutcome.{roots}
+use Rattle.demands.proofs.OneOutcome.{answered-one, roots}
 
 -- the rule decides
 
@@ -74,6 +75,33 @@ checks-by-rule m t = (to, from)
 -- and that k is the one of every promise: codeOf m t .k
 pub k-by-rule : {m t k : ℕ} → IsField m → Rule m k t → k ≡ kOf m t
 k-by-rule {m} {t} {k} L R = sym (listed-k (listed-exactly m k t L .1 R))
+
+-- Sizes is done and gives k exactly if the rule holds
+pub sizes-by-rule : {m t : ℕ} {x : Described} → GivesSizes m t x → (k : ℕ) → ((x .outcome ≡ Done) × (x .k ≡ k)) ↔ (IsField m × Rule m k t)
+sizes-by-rule {m} {t} {x} p k = (to, from)
+  where
+    to : (x .outcome ≡ Done) × (x .k ≡ k) → IsField m × Rule m k t
+    to (e, f) =
+        let v = done-passed (p .promise) e in
+        let (L, (j, R)) = checks-by-rule m t .0 v in
+        (L, subst (λ (i : ℕ). Rule m i t) (k-by-rule L R ∙ sym (p .promise .done v .did .is-k) ∙ f) R)
+
+    from : IsField m × Rule m k t → (x .outcome ≡ Done) × (x .k ≡ k)
+    from (L, R) =
+        let v = checks-by-rule m t .1 (L, (k, R)) in
+        (answer-is (p .promise) ∙ v, p .promise .done v .did .is-k ∙ sym (k-by-rule L R))
+
+pub sizes-n : {m t : ℕ} {x : Described} → GivesSizes m t x → x .outcome ≡ Done → x .n ≡ nOf m
+sizes-n p e = p .promise .done (done-passed (p .promise) e) .did .is-n
+
+-- where Describe is done, Sizes answers the same
+pub sizes-as-described : {m t : ℕ} {lent left : List ℕ} {x y : Described} → GivesSizes m t x → Describes m t lent y left → y .outcome ≡ Done → x ≡ y
+sizes-as-described {m} {t} {lent} p q e =
+    let w = done-passed (q .promise) e in
+    let K = past m t (describeChecks lent (codeOf m t)) w .known in
+    let d = p .promise .done (code-passes K [] tt) in
+    let g = q .promise .done w .did in
+    answered-one (d .is-done ∙ sym e) (d .did .is-n ∙ sym (g .is-n)) (d .did .is-k ∙ sym (g .is-k))
 
 -- there are 232 codes
 pub codes-in-number : Numbered (λ (m t : ℕ). verdict (codeChecks m t []) ≡ Done) 232

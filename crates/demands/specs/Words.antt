@@ -1,4 +1,4 @@
--- The words of the three demands, in which the theorems of proofs/Demands are said.
+-- The words of the three demands (docs/SCOPE.md 9), in which the theorems of proofs/Demands are said.
 use mathlib.Core.Path.{_≡_}
 use mathlib.Core.Bool.{cond, _||_}
 use mathlib.Core.List.{List, [], _∷_, _++_}
@@ -21,6 +21,7 @@ use Rattle.codes.specs.Look.{kOf, codeOf, codeVerdict}
 use Rattle.codes.specs.Sums.{CodeWord}
 use Rattle.generator.specs.Minimal.{Minimal}
 use Rattle.codec.specs.declared.describing.Described.{Described}
+use Rattle.codec.specs.Sizes.{GivesSizes, sizesChecks}
 use Rattle.codec.specs.Describe.{Describes, describeChecks}
 use Rattle.codec.specs.Encode.{Encodes, encodeChecks}
 use Rattle.codec.specs.Edit.{Edits, editChecks}
@@ -60,6 +61,7 @@ NearLead received r = (word : List ℕ) × CodeWord 8 23 word × (distance recei
 
 -- an outcome is the answer and what every buffer then holds
 pub record OneOutcome : Type 0 where
+  pub sizes : (m t : ℕ) → One (GivesSizes m t)
   pub describe : (m t : ℕ) (lent : List ℕ) → One (λ (o : Described × List ℕ). Describes m t lent (o .0) (o .1))
   pub encode : (m t : ℕ) (message lent : List ℕ) → One (λ (o : Outcome × List ℕ). Encodes m t message lent (o .0) (o .1))
   pub decode : (m t : ℕ) (received lentWord lentList : List ℕ)
@@ -77,6 +79,7 @@ pub record OneOutcome : Type 0 where
 -- The outcome is what the checks come to. Where an operation searches once they have passed, a refusal is that of a check, or it is 6 and there is nothing
 -- to find; of a frame, also what the lead of the code word near it comes to.
 pub record OneCondition : Type 0 where
+  pub sizes : {m t : ℕ} {x : Described} → GivesSizes m t x → x .outcome ≡ codeVerdict m t sizesChecks
   pub describe : {m t : ℕ} {lent left : List ℕ} {x : Described} → Describes m t lent x left → x .outcome ≡ codeVerdict m t (describeChecks lent)
   pub encode : {m t : ℕ} {message lent left : List ℕ} {x : Outcome} → Encodes m t message lent x left → x ≡ codeVerdict m t (encodeChecks message lent)
   pub decode : {m t : ℕ} {received lentWord lentList word list : List ℕ} {x : Decoded} → Decodes m t received lentWord lentList x word list
@@ -97,6 +100,7 @@ pub record OneCondition : Type 0 where
 
 -- where it is refused, every number beside the outcome is 0 and every lent buffer is as it was; Open gives a record of zeros, Splice the record it got
 pub record RefusedStays : Type 0 where
+  pub sizes : {m t : ℕ} {x : Described} → GivesSizes m t x → x .outcome ≢ Done → (x .n ≡ 0) × (x .k ≡ 0)
   pub describe : {m t : ℕ} {lent left : List ℕ} {x : Described} → Describes m t lent x left → x .outcome ≢ Done
       → (x .n ≡ 0) × (x .k ≡ 0) × (left ≡ lent)
   pub encode : {m t : ℕ} {message lent left : List ℕ} {x : Outcome} → Encodes m t message lent x left → x ≢ Done → left ≡ lent

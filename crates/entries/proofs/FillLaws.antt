@@ -12,7 +12,7 @@ use Rattle.entries.specs.Entries.{Filled}
 pub fill-start : (f : ℕ → ℕ) (xs : List ℕ) → Filled f 0 xs xs
 fill-start f xs = record { same = refl; holds = λ i h. absurd (omega arith); rest = λ i h. refl }
 
--- the first places are right as they are
+-- the first places hold the right entries already
 pub fill-from : (f : ℕ → ℕ) (k : ℕ) (xs : List ℕ) → ((i : ℕ) → i < k → getD xs i 0 ≡ f i) → Filled f k xs xs
 fill-from f k xs e = record { same = refl; holds = e; rest = λ i h. refl }
 

@@ -1,4 +1,4 @@
-// A sent word edited, damaged, edited again, opened, spliced three times and twice refused, decoded, and decoded with one stored sum changed by hand.
+// The keeping trial: a sent word is edited, damaged, edited again and opened; its record is spliced, three times accepted and twice refused, and decoded twice.
 
 ghost use Rattle.codes.specs.Work.{Known};
 use crate::made_up;
@@ -48,7 +48,7 @@ fn splice_some(code: Code, step: Step) -> Step
     splice(code, Step { record, tally }, stretch.start, &bits[..long])
 }
 
-// The last two are refused: one bit past the end, and a bit that is none.
+// Opens the word and splices five times. The last two splices are refused: one runs a bit past the end, and the other has a bit above 1.
 fn open_and_splice(code: Code, word: &[u8], tally: Tally) -> Step
     requires { ⌜ Known code ⌝ }
 {
@@ -75,7 +75,7 @@ fn decode(code: Code, record: Kept, tally: Tally) -> Tally
     decode_into(record, &mut word[..n], &mut list[..t], tally)
 }
 
-// As it is, and with another element in place of one stored sum.
+// Decodes the record as it is, and then with one stored sum changed by hand to another element.
 fn decode_twice(code: Code, step: Step) -> Tally
     requires { ⌜ Known code ⌝ }
 {

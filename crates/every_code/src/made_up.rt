@@ -98,7 +98,7 @@ fn least(x: usize, y: usize) -> usize
     if x < y { x } else { y }
 }
 
-// A stretch that ends in time and is at most so long.
+// A stretch that does not run past the end and is at most `longest` long.
 pub(crate) fn make_stretch(state: &mut u64, end: usize, longest: usize) -> Stretch
     requires { ⌜ end ≤ 1023 ⌝ }
     ensures { λ r. ⌜ Counts (r .long) (r .bits) ⌝ }

@@ -1,4 +1,4 @@
-// Every listed code described, encoded, decoded, edited, opened, spliced and decoded from what is kept. The file stdout is what the second program prints.
+// A test: calls the operations with every one of the 232 codes and writes what comes of it; the second program writes the same.
 
 ghost use Prim.Native.Nat.{_≤_};
 ghost use Rattle.codes.specs.Work.{Known};
@@ -26,7 +26,7 @@ fn print_code(code: Code)
     trials::print_kept(code);
 }
 
-// The lines of a listed code, and how many codes that is.
+// Writes the lines of (m, t) if it is a listed code. Gives 1 if it is, and 0 if not.
 fn print_if_listed(m: usize, t: usize) -> usize
     ensures { λ r. ⌜ r ≤ 1 ⌝ }
 {

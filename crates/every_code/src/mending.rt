@@ -39,7 +39,7 @@ fn decode_flipped(code: Code, count: usize, sent: &[u8], word: &mut [u8], mut ta
     decode(code, word, tally)
 }
 
-// The same with at most t.
+// The sent word with at most t places turned over.
 fn decode_mendable(code: Code, sent: &[u8], word: &mut [u8], mut tally: Tally) -> Tally
     requires { ⌜ Known code × (length (now sent) ≡ length (now word)) ⌝ }
 {
@@ -58,7 +58,7 @@ fn decode_around(code: Code, sent: &[u8], word: &mut [u8], tally: Tally) -> Tall
     decode_flipped(code, t + 2, sent, word, three)
 }
 
-// With at most t, three times.
+// The sent word with at most t places turned over, three times.
 fn decode_within(code: Code, sent: &[u8], word: &mut [u8], tally: Tally) -> Tally
     requires { ⌜ Known code × (length (now sent) ≡ length (now word)) ⌝ }
 {

@@ -1,4 +1,4 @@
-// Room to lend. It is filled with what no operation writes, so that what is written is seen.
+// Room to lend, filled with a value that no operation writes, so that every place that was written shows.
 
 ghost use Prim.Native.Nat.{_≤_};
 ghost use Rattle.io.specs.Counts.{Counts};

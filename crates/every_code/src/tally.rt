@@ -7,7 +7,7 @@ use codes::Code;
 use decode::Decoded;
 use sheet::Outcome;
 
-// The state is that of the generator that makes the words up.
+// `state` is the state of the generator of made-up numbers.
 pub(crate) struct Tally {
     pub(crate) state: u64,
     pub(crate) mended: u64,
@@ -49,7 +49,7 @@ pub(crate) fn with_word(tally: Tally, word: &[u8]) -> Tally {
     mixed
 }
 
-// The first so many entries.
+// Mixes in the first `count` entries.
 pub(crate) fn with_list(tally: Tally, count: usize, list: &[u16]) -> Tally
     requires { ⌜ count ≤ length (now list) ⌝ }
 {

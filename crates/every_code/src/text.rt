@@ -8,7 +8,7 @@ pub(crate) fn print_number(x: u64) {
     io::print_decimal(STDOUT_FILENO, x);
 }
 
-// The digit of a bit; what is no bit shows as a question mark.
+// The digit of a bit. A value above 1 shows as a question mark.
 fn digit(bit: u8) -> u8 {
     match bit {
         0 => b'0',

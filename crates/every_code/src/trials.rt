@@ -15,7 +15,7 @@ use codes::Code;
 use libc::STDOUT_FILENO;
 
 enum Trial {
-    // The word with the number of the turn decoded.
+    // The word whose bits are the number of the turn is decoded.
     EachWord,
     // A sent word decoded with wrong places.
     Mending,
@@ -95,7 +95,7 @@ fn print_line(name: &[u8], code: Code, number: u64, tally: Tally) {
     io::write_all(STDOUT_FILENO, b"\n");
 }
 
-// The words with the numbers below the end, a line for each block of so many. Its number is that of its first word.
+// Decodes the words with the numbers below `end` in blocks of `size`. Each block has a line, and the number in it is that of the block's first word.
 fn print_blocks(code: Code, size: usize, end: usize)
     requires { ⌜ Known code × (1 ≤ size) × (size ≤ 256) × (end ≤ 32768) ⌝ }
 {
@@ -107,7 +107,7 @@ fn print_blocks(code: Code, size: usize, end: usize)
     }
 }
 
-// The number is how many were mended.
+// The line of `count` turns. The number in it is how many words were mended.
 fn print_rounds(name: &[u8], trial: Trial, code: Code, count: usize)
     requires { ⌜ Known code × (count ≤ 256) ⌝ }
 {

@@ -1,10 +1,10 @@
-// Words of a code: sent ones, and every one by its number.
+// Words of n bits: the code word of a made-up message, and the word with a given number.
 
 use crate::made_up;
 use crate::tally::Tally;
 use codes::Code;
 
-// The code word of a made-up message. Where the message is refused the word is left as lent, which shows.
+// The code word of a made-up message. If the message is refused, the word stays as lent, and the lines show that.
 pub(crate) fn send(code: Code, message: &mut [u8], word: &mut [u8], mut tally: Tally) -> Tally {
     made_up::fill(&mut tally.state, message);
     codec::encode(code.m, code.t, message, word);

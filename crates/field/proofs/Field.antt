@@ -44,7 +44,7 @@ ringOf m L = record {
   ⊗-over-⊕ = λ x y z. el-path (product-over m (x .0) (y .0) (z .0));
 }
 
--- zero can be told
+-- it can be decided whether an element is 0
 unfoldable pub zero? : {m : ℕ} (L : IsField m) (x : Element m) → Dec (x ≡ ringOf m L .𝟘)
 zero? {m} L x = pick (ℕ-discrete (x .0) 0)
   where

@@ -1,4 +1,4 @@
--- Two tests of a list that antt computes, and what they tell: that 1 stands first at its end, and that it holds every number below 2 ^ k.
+-- Two computed tests of a list and what they prove: that 1 stands at its end and nowhere before, and that it holds every number below 2 ^ k.
 use mathlib.Core.Path.{_≡_, _∙_, refl, sym, ap, subst}
 use mathlib.Core.Logic.{_≢_}
 use mathlib.Core.Bool.{Bool, true, false, not}

@@ -79,7 +79,7 @@ module _ {m : ℕ} (L : IsField m) where
           let (i, l, u, e) = orbit-place (shifted m (polynomial m)) (power m a) power-step (nOf m) x q in
           wrapped i u e (ℕ-discrete i (nOf m))
 
-  -- what is left of i times round
+  -- a^i times a^(i * n - i) is 1
   power-completed : (i : ℕ) → power m a i ⊗⟨ m ⟩ power m a (i * nOf m - i) ≡ 1
   power-completed i =
       let l : i ≤ i * nOf m = le-mul-of-pos-right i (omega (arith, eight-bound)) in

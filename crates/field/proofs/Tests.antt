@@ -1,4 +1,4 @@
--- Tests that are computed, and the facts they tell: of every number in a range, of every listed m, of a list of tests.
+-- Computed tests and what they prove: for every number in a range, for every listed m, for every test of a list.
 use mathlib.Core.Path.{_≡_, subst}
 use mathlib.Core.Bool.{Bool, true, false}
 use mathlib.Core.List.{List, [], _∷_}

@@ -1,4 +1,5 @@
 -- Powers, the inverse, and n, the number of powers of a.
+-- docs/SCOPE.md 2.3: "The power 0 of an element is 1, and each further power is the one before times the element."
 use Prim.Native.Nat.{ℕ, zero, suc, _-_, _^_}
 use Rattle.field.specs.Product.{_⊗⟨_⟩_}
 
@@ -13,6 +14,6 @@ unfoldable pub power : ℕ → ℕ → ℕ → ℕ
 power m x zero = 1
 power m x (suc e) = x ⊗⟨ m ⟩ power m x e
 
--- "The inverse of a nonzero element is its power 2^m - 2."
+-- docs/SCOPE.md 2.3: "The inverse of a nonzero element is its power 2^m - 2."
 unfoldable pub inverse : ℕ → ℕ → ℕ
 inverse m x = power m x (2 ^ m - 2)

@@ -1,4 +1,4 @@
--- The field product: "the polynomial product reduced by the field polynomial".
+-- The product of the field. docs/SCOPE.md 2.2: "The product of two elements is the polynomial product reduced by the field polynomial".
 -- A number stands for a polynomial: its binary digit at place i is the coefficient of x^i.
 use mathlib.Core.List.{List, [], _∷_}
 use Prim.Native.Nat.{ℕ, zero, suc, _-_, _*_, _/_, _%_, _^_, _≤_}
@@ -6,7 +6,7 @@ use lib.ListN.{getD}
 use Rattle.field.specs.Sum.{_⊕_}
 
 infixl 70 _⊗⟨_⟩_
--- the field polynomials, for m = 3 to 10
+-- the field polynomials, for m = 3 to 10, as docs/SCOPE.md 2 has them
 unfoldable pub polynomials : List ℕ
 polynomials = 11 ∷ 19 ∷ 37 ∷ 67 ∷ 131 ∷ 285 ∷ 529 ∷ 1033 ∷ []
 

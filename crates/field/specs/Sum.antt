@@ -1,4 +1,4 @@
--- Field addition: "Addition is bitwise exclusive-or."
+-- The sum of the field. docs/SCOPE.md 2.1: "The sum of two elements is their bitwise exclusive-or."
 use Prim.Native.Nat.{ℕ}
 use lib.Bits.{bitXor}
 

@@ -16,7 +16,7 @@ pub record Logs (m : ℕ) (logs : List ℕ) : Type 0 where
   pub long : 2 ^ m ≤ length logs
   pub holds : (i : ℕ) → i < nOf m → getD logs (power m a i) 0 ≡ i
 
--- what the product works by, for an m from 3 to 10
+-- the two tables by which the product is worked out, for an m from 3 to 10
 pub record Tables (m : ℕ) (powers logs : List ℕ) : Type 0 where
   pub listed : IsField m
   pub powers-hold : Powers m powers

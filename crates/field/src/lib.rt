@@ -7,7 +7,7 @@ ghost use Rattle.field.specs.Product.{IsField, polynomial, _⊗⟨_⟩_}
 ghost use Rattle.field.specs.Power.{a, nOf, power, inverse};
 ghost use Rattle.field.specs.Tables.{Powers, Tables};
 
-// The first list of field polynomials, for m = 3 to 10.
+// The field polynomials for m = 3 to 10, as docs/SCOPE.md 2 has them.
 const POLYNOMIALS: [u16; 8] = [11, 19, 37, 67, 131, 285, 529, 1033];
 
 pub fn polynomial(m: usize) -> u16
@@ -52,7 +52,7 @@ pub fn logs_space() -> [u16; 1024]
     [0; 1024]
 }
 
-// Twice around, the places 0 to 2n - 1: a^n is 1, so each power stands at two places.
+// Fills the places 0 to 2n - 1 with the powers of a. Since a^n is 1, each power stands at two places.
 pub fn fill_powers(m: usize, powers: &mut [u16])
     requires { ⌜ (IsField m) × (2046 ≡ length (now powers)) ⌝ }
     ensures { λ _. ⌜ Powers m (now (powers .exit)) ⌝ }
@@ -82,7 +82,7 @@ pub fn fill_logs(m: usize, powers: &[u16], logs: &mut [u16])
     }
 }
 
-// The product by the two tables: logarithms add up, and 0 has none.
+// The product by the two tables: the logarithms of the factors are added. 0 has no logarithm, and a product with 0 is 0.
 pub fn product(m: usize, powers: &[u16], logs: &[u16], x: u16, y: u16) -> u16
     requires { ⌜ (Tables m (now powers) (now logs)) × (x < 2 ^ m) × (y < 2 ^ m) ⌝ }
     ensures { λ r. ⌜ r ≡ x ⊗⟨ m ⟩ y ⌝ }
@@ -123,7 +123,7 @@ pub fn inverse(m: usize, powers: &[u16], logs: &[u16], x: u16) -> u16
     power(m, powers, logs, x, (1 << m) - 2)
 }
 
-// The exponent below n of the same power as e, which is below 2n.
+// The exponent e, which is below 2n, brought below n. The power of a stays the same.
 pub fn around(n: usize, e: usize) -> usize
     requires { ⌜ e < 2 * n ⌝ }
     ensures { λ r. ⌜ r ≡ e % n ⌝ }

@@ -1,4 +1,4 @@
-// Values of the field that can be told without this code: GF(16) from the papers, and for each m what the definitions give by hand.
+// A test: writes values of the field that can be worked out without this code.
 
 ghost use Prim.Native.Nat.{_^_, _<_};
 ghost use Rattle.field.specs.Product.{IsField};

@@ -1,4 +1,4 @@
--- Making a frame: "A frame made is the exact encoding." Refusal 9.
+-- Making a frame. docs/SCOPE.md 4.11: "A frame made is the exact encoding of its reading". 5.2: its check is 9.
 use mathlib.Core.Path.{_≡_}
 use mathlib.Core.Bool.{not}
 use mathlib.Core.List.{List, [], _∷_}
@@ -22,6 +22,6 @@ pub record Made (reading : Reading) (frame : List ℕ) : Type 0 where
   pub pad : sentBit frame 255 ≡ 0
   pub encodes : Encoding 8 23 99 (messageOf reading) (wordOf frame)
 
--- refused, the buffer is as lent
+-- where it is refused, the buffer is as lent
 abbrev pub Makes : Reading → List ℕ → Outcome → List ℕ → Type 0
 Makes reading lent = Promise (makeChecks lent) (Always (Made reading)) lent

@@ -1,4 +1,5 @@
--- Reading a frame: "A frame read gives the reading and the number of wrong places." Refusals 9, 10, 6, 11, in this order.
+-- Reading a frame. docs/SCOPE.md 4.12: "A frame read gives the reading and the number of wrong places. The code word within 23 of the frame's word is taken,
+-- and its lead bits must be right." 5.2: its checks are 9, 10, 6, 11.
 use mathlib.Core.Path.{_≡_}
 use mathlib.Core.Bool.{not}
 use mathlib.Core.List.{List, [], _∷_}
@@ -44,7 +45,7 @@ pub record ReadFrom (word : List ℕ) (wrong : ℕ) (given : Given) : Type 0 whe
   pub reading : Carries (given .reading) word
   pub count : given .wrong ≡ wrong
 
--- what a mended word says that had so many wrong places
+-- what a mended word says, given the number of wrong places that it had
 abbrev pub ReadsWord : List ℕ → ℕ → Outcome → Given → Type 0
 ReadsWord word wrong = Promise (leadChecks word) (Always (ReadFrom word wrong)) zeros
 

@@ -69,7 +69,7 @@ fn list_space() -> [u16; 23]
     [0; 23]
 }
 
-// What a mended word says that had so many wrong places.
+// What a mended word says. `wrong` is the number of wrong places that it had.
 fn read_word(word: &[u8], wrong: usize) -> ReadFrame
     requires { ⌜ AreBits (now word) × (length (now word) ≡ 255) ⌝ }
     ensures { λ r. ⌜ ReadsWord (now (word .entry)) wrong (r .outcome) (givenBy r) ⌝ }

@@ -68,7 +68,7 @@ before-ascends {m} {q} {r} v w h = pick (row-before w)
         same (yes i) = omega (arith, row-facts v, ap (λ x. getD ts x 0) i)
         same (no i) = omega (arith, row-facts v, rows-ascend m q p v u (omega arith))
 
--- and every factor is the minimal polynomial of such a power, an odd one
+-- and every factor is the minimal polynomial of such a power of a with an odd exponent
 pub power-of-factor : {m q r : ℕ} → RowOf m q → RowOf m r → q ≤ r
     → (i : ℕ) × (i % 2 ≡ 1) × (i ≤ 2 * getD ts r 0 - 1) × Minimal m i (degreeOf m q) (rowMinimal m q)
 power-of-factor {m} {q} {r} v w h = (2 * before-t m q + 1, omega arith, pick (ℕ-discrete q r), minimal v)
@@ -77,7 +77,7 @@ power-of-factor {m} {q} {r} v w h = (2 * before-t m q + 1, omega arith, pick (�
     pick (yes e) = omega (arith, row-facts v, ap (λ x. getD ts x 0) e)
     pick (no e) = omega (arith, row-facts v, rows-ascend m q r v w (omega arith))
 
--- no two rows of m have the same one
+-- no two rows of m have the same minimal polynomial
 pub factors-differ : {m q r : ℕ} → RowOf m q → RowOf m r → q < r → rowMinimal m q ≢ rowMinimal m r
 factors-differ {m} {q} {r} v w h e =
     no-other-root v (2 * before-t m r + 1) (omega (arith, row-facts w)) out (ap (sumOf m (2 * before-t m r + 1)) e ∙ minimal w .root)

@@ -56,7 +56,7 @@ module _ {m r : ℕ} (w : RowOf m r) where
         least = minimal-least;
       }
 
-  -- and of every power of the class
+  -- it is also the minimal polynomial of every power of the class
   pub minimal-of-class : (x : ℕ) → InClass (nOf m) (2 * before-t m r + 1) x → Minimal m x (degreeOf m r) (rowMinimal m r)
   minimal-of-class x (e, f) = record {
     long = minimal .long;
@@ -69,7 +69,7 @@ module _ {m r : ℕ} (w : RowOf m r) where
       returns : x * 2 ^ (e * (m - 1)) % nOf m ≡ 2 * before-t m r + 1
       returns = back m (2 * before-t m r + 1) e x (omega arith) f ∙ mod-eq-of-lt (omega (arith, row-facts w))
 
-  -- but of no other power: it would have more roots than its degree
+  -- no other power is a root, since there would be more roots than the degree
   pub no-other-root : (x : ℕ) → x < nOf m → (InClass (nOf m) (2 * before-t m r + 1) x → ⊥) → sumOf m x (rowMinimal m r) ≢ 0
   no-other-root x l out h =
       let zero-top = zero-by-roots (w .listed) (suc d) (x ∷ roots .list) (ap suc (roots .long)) differ below (rowMinimal m r)

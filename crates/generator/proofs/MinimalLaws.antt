@@ -176,7 +176,7 @@ rooted-n {m} L i =
     root : sumOf m i (low ++ (1 ∷ [])) ≡ 0
     root = sum-append L i low (1 ∷ []) low-bits (bits-ones 1) ∙ ap₂ (λ (x y : ℕ). x ⊕ y) one around ∙ sum-self 1
 
--- where no degree below b has the root, nothing below place b has it but 0
+-- if no polynomial of a degree below b has the root, then among the polynomials below place b only 0 has it
 all-zero : (m i b : ℕ) (q : List ℕ) → AreBits q → ((e : ℕ) → e < b → Rooted m i e → ⊥) → ((j : ℕ) → b ≤ j → getD q j 0 ≡ 0) → sumOf m i q ≡ 0
     → (j : ℕ) → getD q j 0 ≡ 0
 all-zero m i b q c f z h = pick (zero-or-degree b q c z)

@@ -47,13 +47,13 @@ module _ {m : ℕ} (L : IsField m) where
       ∙ product-shape x (power m a j) (sumOf m j xs) (sumOf m j ys)
       ∙ sym (ap (λ z. z ⊗⟨ m ⟩ sumOf m j ys) (sum-cons L j x xs b))
 
--- a multiple has the roots of what it is a multiple of
+-- a multiple of g has the roots of g
 pub multiple-root : {m : ℕ} → IsField m → (j : ℕ) {g q : List ℕ} (c : List ℕ) → AreBits g → AreBits q
     → ((i : ℕ) → getD c i 0 ≡ getD (productBits q g) i 0) → sumOf m j g ≡ 0 → sumOf m j c ≡ 0
 multiple-root {m} L j {g} {q} c b e w z =
     sum-same m j c (productBits q g) w ∙ sum-product L j q g e b ∙ ap (λ (y : ℕ). sumOf m j q ⊗⟨ m ⟩ y) z ∙ product-zero m (sumOf m j q)
 
--- c divided by g of degree d: c is q times g and r, and r is 0 from place d on
+-- c divided by g of degree d: c is q times g plus r, and r is 0 from place d on
 pub record Divided (d : ℕ) (g c : List ℕ) : Type 0 where
   pub q : List ℕ
   pub r : List ℕ
@@ -127,7 +127,7 @@ module _ (d : ℕ) (g : List ℕ) (long : length g ≡ d + 1) (bits : AreBits g)
   divided [] b = divided-nil
   divided (x ∷ c) b = divided-cons x c (bits-head b) (divided c (bits-tail b))
 
--- what is left of a division has the roots that both have
+-- what is left of a division of c by g has the roots that c and g both have
 pub left-root : {m : ℕ} → IsField m → (j : ℕ) {d : ℕ} {g c : List ℕ} → AreBits g → (D : Divided d g c) → sumOf m j g ≡ 0 → sumOf m j c ≡ 0
     → sumOf m j (D .r) ≡ 0
 left-root {m} L j {d} {g} {c} b D z h =
@@ -136,7 +136,7 @@ left-root {m} L j {d} {g} {c} b D z h =
     ∙ sym (sum-linear L j c (productBits (D .q) g) (D .r) (bits-product (D .q-bits) b) (D .r-bits) (D .whole))
     ∙ h
 
--- and where nothing is left it is a multiple
+-- where nothing is left, c is a multiple of g
 pub none-left : {d : ℕ} {g c : List ℕ} (D : Divided d g c) → ((i : ℕ) → getD (D .r) i 0 ≡ 0)
     → (q : List ℕ) × AreBits q × ((i : ℕ) → getD c i 0 ≡ getD (productBits q g) i 0)
 none-left {g = g} D left =

@@ -1,4 +1,4 @@
--- The places of a product of bit polynomials: one more coefficient of the first, and what of the second a place reads.
+-- The places of a product of bit polynomials: one more coefficient of the first factor, and which places of the second factor count for a place.
 use mathlib.Core.Path.{_≡_, _∙_, sym, ap, ap₂}
 use mathlib.Core.List.{List, [], _∷_, _++_}
 use Prim.Native.Nat.{ℕ, zero, suc, _*_, _≤_}
@@ -38,7 +38,7 @@ product-snoc (x ∷ xs) b ys (suc i) =
     ∙ exchange (getD (productBits xs ys) i 0) (b * getD (replicate (length xs) 0 ++ ys) i 0) (x * getD ys (suc i) 0)
     ∙ ap (λ (z : ℕ). z ⊕ b * getD (replicate (length xs) 0 ++ ys) i 0) (sym (product-place x xs ys (suc i)))
 
--- a place of the product reads the second factor no further up
+-- place i of the product depends only on the places 0 to i of the second factor
 pub product-local : (xs ys zs : List ℕ) (i : ℕ) → ((j : ℕ) → j ≤ i → getD ys j 0 ≡ getD zs j 0) → getD (productBits xs ys) i 0 ≡ getD (productBits xs zs) i 0
 product-local [] ys zs i h = product-none ys i ∙ sym (product-none zs i)
 product-local (x ∷ xs) ys zs zero h =

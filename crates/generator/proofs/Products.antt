@@ -70,7 +70,7 @@ cut-next {from} {r} {n} {table} {g} {after} e h s t l = record { bits = t .bits;
         ∙ ap (λ (q : ℕ). getD (productBits (binary 11 (getD minimals q 0)) (productOf from (r - from))) i 0) (sym places)
         ∙ ap (λ (q : List ℕ). getD q i 0) (sym (product-suc from (r - from)) ∙ ap (productOf from) count)
 
--- what reaches no further than the buffer stands there whole
+-- a buffer that is no longer than the product holds the product's first places
 pub cut-whole : {p buffer : List ℕ} {n : ℕ} → Cut p n buffer → n ≤ length p → buffer ≡ take n p
 cut-whole {p} {buffer} {n} s h =
     ext-getD 0 buffer (take n p) (s .same ∙ sym (length-take-le n p h))

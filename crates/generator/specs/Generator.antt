@@ -1,4 +1,4 @@
--- Generators: bit lists, place i the coefficient of x^i.
+-- Generators. docs/SCOPE.md 3.3: "It is a list of n-k+1 bits, place i its coefficient of x^i, whose top bit is 1."
 use mathlib.Core.Path.{_≡_}
 use mathlib.Core.List.{List}
 use Prim.Native.Nat.{ℕ, _+_, _*_, _≤_}

@@ -1,4 +1,5 @@
--- Minimal polynomials: bit lists, place i the coefficient of x^i.
+-- Minimal polynomials, as lists of bits: place i holds the coefficient of x^i.
+-- docs/SCOPE.md 3.3: "The minimal polynomial of a^i is the polynomial over bits of the least degree, other than 0, that has the root a^i."
 use mathlib.Core.Path.{_≡_}
 use mathlib.Core.List.{List}
 use Prim.Native.Nat.{ℕ, _+_, _≤_}

@@ -26,7 +26,7 @@ pub record Multiplied (p : ℕ) (before after : List ℕ) : Type 0 where
   pub bits : AreBits after
   pub holds : (i : ℕ) → i < length before → getD after i 0 ≡ getD (productBits (binary 11 p) before) i 0
 
--- a multiple of g is taken away that leaves 0 at place i and changes nothing above it: a sum that vanishes for g is kept
+-- a multiple of g is taken away: place i then holds 0, nothing above it changes, and a sum that vanishes for g stays as it was
 pub record TakenAway (d : ℕ) (g : List ℕ) (i : ℕ) (before after : List ℕ) : Type 0 where
   pub bits : AreBits after
   pub here : getD after i 0 ≡ 0

@@ -14,7 +14,7 @@ ghost use Rattle.generator.specs.Work.{Tapped, Multiplied, Cut, TakenAwa
 
 mod table;
 
-// Adds old, moved up by e places, into g where p's digit e is 1, as far as g reaches.
+// If p's digit e is 1, adds old, moved up by e places, into g, as far as g reaches.
 fn add_tap(g: &mut [u8], old: &[u8], e: usize, p: u16)
     requires { ⌜ AreBits (now g) × AreBits (now old) × (length (now old) ≡ length (now g)) × (e < 16) ⌝ }
     ensures { λ _. ⌜ Tapped p e (now (old .entry)) (now (g .entry)) (now (g .exit)) ⌝ }
@@ -29,7 +29,7 @@ fn add_tap(g: &mut [u8], old: &[u8], e: usize, p: u16)
     bits::add_at(g, e, &old[..end]);
 }
 
-// Into g, which is clear, old times the polynomial p of at most 11 digits, as far as g reaches.
+// Fills g, which is clear, with old times the polynomial p of at most 11 digits, as far as g reaches.
 fn add_taps(g: &mut [u8], old: &[u8], p: u16)
     requires { ⌜ (now g ≡ replicate (length (now old)) 0) × AreBits (now old) ⌝ }
     ensures { λ _. ⌜ Multiplied p (now (old .entry)) (now (g .exit)) ⌝ }
@@ -41,7 +41,7 @@ fn add_taps(g: &mut [u8], old: &[u8], p: u16)
     }
 }
 
-// g times the polynomial p, as far as g reaches.
+// Multiplies g by the polynomial p, as far as g reaches.
 fn multiply(g: &mut [u8], p: u16)
     requires { ⌜ AreBits (now g) × (length (now g) ≤ 1024) ⌝ }
     ensures { λ _. ⌜ Multiplied p (now (g .entry)) (now (g .exit)) ⌝ }
@@ -85,7 +85,7 @@ pub fn fill_generator(m: usize, row: usize, g: &mut [u8])
     multiply_rows(g, &minimals, from, row + 1);
 }
 
-// The same at the front of room for any generator, d being its degree.
+// The generator of a row of m, at the front of room for any generator. d is its degree.
 pub fn generator(m: usize, row: usize, d: usize) -> [u8; 1024]
     requires { ⌜ RowOf m row × (d ≡ nOf m - getD ks row 0) ⌝ }
     ensures { λ r. ⌜ Generator m (getD Table·ts row 0) d (take (d + 1) r) × (1024 ≡ length r) ⌝ }
@@ -96,7 +96,7 @@ pub fn generator(m: usize, row: usize, d: usize) -> [u8; 1024]
     space
 }
 
-// Takes g, moved up so that its top place d stands at place i, away where the word holds 1 there.
+// If the word holds 1 at place i, takes g away from it, moved up so that g's top place d stands at place i.
 fn take_away(word: &mut [u8], g: &[u8], d: usize, i: usize)
     requires { ⌜ AreBits (now word) × AreBits (now g) × (length (now g) ≡ d + 1) × (getD (now g) d 0 ≡ 1) × (d ≤ i) × (i < length (now word)) ⌝ }
     ensures { λ _. ⌜ TakenAway d (now (g .entry)) i (now (word .entry)) (now (word .exit)) ⌝ }

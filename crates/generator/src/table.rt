@@ -3,7 +3,7 @@
 ghost use mathlib.Core.Path.{_≡_};
 ghost use Rattle.generator.specs.Minimals.{minimals};
 
-// For the rows of the listed codes, one after another: the minimal polynomial that the row adds.
+// For each row of the listed codes, the minimal polynomial that the row adds to the generator.
 const MINIMALS: [u16; 232] = [
     11,
     19,

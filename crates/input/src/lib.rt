@@ -6,13 +6,13 @@ ghost use lib.ListN.{length};
 ghost use Rattle.input.specs.Reads.{ReadsAfter};
 use libc::STDIN_FILENO;
 
-// What a read gave; where it is no byte, the input has ended unless the read has failed.
+// What a read gave. If it gave no byte, either the read has failed or the input has ended.
 pub struct Came {
     pub count: usize,
     pub failed: bool,
 }
 
-// At most `left` bytes, to where the held ones end.
+// Reads at most `left` bytes into the buffer, after the bytes that it holds.
 pub fn read_after(held: usize, left: usize, buffer: &mut [u8]) -> Came
     requires { ⌜ held ≤ length (now buffer) ⌝ }
     ensures { λ r. ⌜ ReadsAfter held left (now (buffer .entry)) (now (buffer .exit)) r ⌝ }

@@ -1,4 +1,4 @@
--- Check 7: looking at the sums one after the other, and what a record holds that passes.
+-- Check 7: looking at the sums one after the other, and what a record that passes holds.
 use mathlib.Core.Path.{_≡_, _∙_, refl, sym, ap, ap₂}
 use mathlib.Core.Bool.{Bool, true, false, _||_, true≢false}
 use mathlib.Core.List.{List, [], _∷_}

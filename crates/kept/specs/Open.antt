@@ -1,5 +1,5 @@
--- Open: "m, t, n bits. Gives a kept record by value: m, t, 1,023 bits, 255 sums (odd ones, in order), zeros past n and past t." Refusals 1, 2, 3, 5;
--- a refused Open gives a record of zeros.
+-- Open. docs/SCOPE.md 4.8: "Takes m, t and n bits. Gives a kept record with these bits and their odd sums, zeros past n and past t."
+-- 5.2: its checks are 1, 2, 3, 5. 5.3: "A refused Open gives a record of zeros".
 use mathlib.Core.Path.{_≡_}
 use mathlib.Core.Bool.{not}
 use mathlib.Core.List.{List, [], _∷_, _++_}
@@ -29,6 +29,6 @@ pub record Opened (word : List ℕ) (c : Code) (stored : Kept) : Type 0 where
   pub bits-are : stored .bits ≡ word ++ replicate (1023 - c .n) 0
   pub sums-are : OddSums (c .m) (c .t) word (stored .sums)
 
--- refused, the record is the one of zeros
+-- where it is refused, the record is the one of zeros
 abbrev pub Opens : ℕ → ℕ → List ℕ → Answer → Type 0
 Opens m t word a = CodePromise m t (openChecks word) (λ c. Always (Opened word c)) zeroKept (a .outcome) (a .record)

@@ -1,4 +1,4 @@
--- The kept record: "m, t, 1,023 bits, 255 sums (odd ones, in order)", and check 7.
+-- The kept record, and check 7. docs/SCOPE.md 4.7: "A kept record is a value that holds m, t, 1,023 bits and 255 sums (the odd ones, in order)."
 use mathlib.Core.Path.{_≡_}
 use mathlib.Core.Bool.{Bool, false, _||_}
 use mathlib.Core.List.{List, [], _∷_}
@@ -19,7 +19,7 @@ unfoldable pub someAtLeast : ℕ → List ℕ → Bool
 someAtLeast bound [] = false
 someAtLeast bound (x ∷ xs) = leb bound x || someAtLeast bound xs
 
--- 7: "one of the first n bits is above 1 or one of the first t sums is 2^m or more"; what stands past them is not looked at
+-- docs/SCOPE.md 5.1: "one of the first n bits is above 1 or one of the first t sums is 2^m or more"; what stands past them is not looked at
 abbrev pub badRecord : Code → Kept → Bool
 badRecord c stored = hasBadBit (take (c .n) (stored .bits)) || someAtLeast (2 ^ c .m) (take (c .t) (stored .sums))
 

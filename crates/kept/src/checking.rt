@@ -21,7 +21,7 @@ fn some_at_least(bound: usize, entries: &[u16]) -> bool
     false
 }
 
-// Check 7, the code being that of the record's m and t.
+// Whether check 7 refuses the record. `code` is the code of the record's m and t.
 pub fn is_bad(code: Code, stored: Kept) -> bool
     requires { ⌜ Known code ⌝ }
     ensures { λ r. ⌜ r ≡ badRecord code stored ⌝ }

@@ -7,8 +7,7 @@ pub use checking::is_bad;
 pub use opening::open;
 use sheet::Outcome;
 
-// A received word kept with the odd sums of it, place by place.
-#[repr(C)]
+// A received word, place by place, kept with its odd sums.
 pub struct Kept {
     pub m: usize,
     pub t: usize,

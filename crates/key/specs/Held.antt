@@ -29,7 +29,7 @@ pub record Holds (m t : ℕ) (L : IsField m) (s : State (field m L)) (l gap q : 
   pub sigma-holds : (i : ℕ) → i < t + 2 → getD sigma i 0 ≡ (s .σ i) .0
   pub b-holds : (i : ℕ) → i < t + 2 → q ⊗⟨ m ⟩ getD (replicate gap 0 ++ b) i 0 ≡ (s .B i) .0
 
--- they hold the run's state after r steps, which is short
+-- the arrays hold the run's state after r steps, and its l is at most t
 pub record Held (m t : ℕ) (all : List ℕ) (r l gap q : ℕ) (sigma b : List ℕ) : Type 0 where
   pub listed : IsField m
   pub sums-below : (i : ℕ) → i < 2 * t → getD all i 0 < 2 ^ m

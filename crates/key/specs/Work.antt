@@ -16,7 +16,7 @@ pub record Squared (m t : ℕ) (sums all : List ℕ) : Type 0 where
   pub even : (i : ℕ) → i < t → getD all (2 * i + 1) 0 ≡ getD all i 0 ⊗⟨ m ⟩ getD all i 0
   pub below : (i : ℕ) → i < 2 * t → getD all i 0 < 2 ^ m
 
--- the sum of the first c entries of sigma, each times the entry of all as far below place r
+-- the sum over i below c of entry i of sigma times entry r - i of all
 unfoldable pub crossed : ℕ → List ℕ → List ℕ → ℕ → ℕ → ℕ
 crossed m sigma all r zero = 0
 crossed m sigma all r (suc c) = crossed m sigma all r c ⊕ getD sigma c 0 ⊗⟨ m ⟩ getD all (r - c) 0

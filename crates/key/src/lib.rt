@@ -55,7 +55,7 @@ fn missed(
     d
 }
 
-// To the first `count` entries of sigma, factor times b, moved up by gap places, is added.
+// Adds factor times b, moved up by gap places, to the first `count` entries of sigma.
 fn mend(
     m: usize,
     powers: &[u16],
@@ -93,7 +93,7 @@ fn sums_space() -> [u16; 510]
     [0; 510]
 }
 
-// Mends the first `count` entries of sigma, and puts the first `whole` entries of what it was into b.
+// Mends the first `count` entries of sigma, and copies the first `whole` entries of the old sigma into b.
 fn renew(
     m: usize,
     powers: &[u16],
@@ -116,7 +116,7 @@ fn renew(
     entries::copy_first(whole, &old, b);
 }
 
-// Step r of the run. Where l passes t, it is left at that.
+// Step r of the run. Where l passes t, sigma and b stay as they are.
 fn step(
     m: usize,
     powers: &[u16],
@@ -158,7 +158,7 @@ fn step(
     }
 }
 
-// The whole run, from arrays that are clear: l where it is at most t, else something above t.
+// The whole run, from arrays that are clear. Gives l where it is at most t, and else a number above t.
 fn run_all(
     m: usize,
     powers: &[u16],

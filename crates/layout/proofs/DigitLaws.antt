@@ -50,7 +50,7 @@ module _ {f : ℕ → ℕ} {n v : ℕ} (d : Digits f n v) (bit : f n ≤ 1) wher
           let e : j ≡ n = omega arith in
           rw e last-digit
 
--- so few digits, and one more, fit into 64 bits
+-- fewer than 64 digits, and one more, fit into 64 bits
 pub digits-fit : {f : ℕ → ℕ} {n v b : ℕ} → Digits f n v → n < 64 → b ≤ 1 → 2 * v + b < 2 ^ 64
 digits-fit {n = n} d h l =
     let p : 2 ^ (n + 1) ≡ 2 ^ n * 2 = pow-add 2 n 1 in

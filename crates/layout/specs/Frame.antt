@@ -1,4 +1,5 @@
--- The reading frame: "Sent number q, 0 to 254, is place 254 - q; it stands in byte q/8 with weight 128 shifted right by q mod 8. Sent number 255 is a pad, 0."
+-- The reading frame. docs/SCOPE.md 6.1: "Sent number q, 0 to 254, is place 254 - q. It stands in byte q/8, with the weight 128 shifted right by q mod 8.
+-- Sent number 255 is a pad, 0".
 use mathlib.Core.Path.{_≡_}
 use mathlib.Core.Bool.{Bool, cond, not}
 use mathlib.Core.List.{List}
@@ -19,13 +20,13 @@ placeBit frame p = sentBit frame (254 - p)
 unfoldable pub wordOf : List ℕ → List ℕ
 wordOf frame = listOf 255 (placeBit frame)
 
--- every value of the three fields is lawful: 16, 16 and 64 bits
+-- docs/SCOPE.md 6.2: "Every value of the three fields is lawful, zero included": 16, 16 and 64 bits
 pub record Lawful (reading : Reading) : Type 0 where
   pub house : reading .house < 2 ^ 16
   pub poll : reading .poll < 2 ^ 16
   pub counter : reading .counter < 2 ^ 64
 
--- "message places 98 to 96 are the lead, 95 to 80 the house, 79 to 64 the poll, 63 to 0 the counter"
+-- docs/SCOPE.md 6.2: "message places 98 to 96 are the lead, 95 to 80 the house, 79 to 64 the poll, 63 to 0 the counter"
 unfoldable pub messageBit : Reading → ℕ → ℕ
 messageBit reading i =
     cond (ltb i 64) (reading .counter / 2 ^ i % 2)
@@ -40,6 +41,6 @@ pub record Carries (reading : Reading) (word : List ℕ) : Type 0 where
   pub lawful : Lawful reading
   pub message : (i : ℕ) → i < 99 → getD word (156 + i) 0 ≡ messageBit reading i
 
--- check 11 looks at message places 96 to 98, all bits: they are to hold 0
+-- check 11 looks at message places 96 to 98, which are bits; all three must hold 0
 unfoldable pub leadIsWrong : List ℕ → Bool
 leadIsWrong word = not (eqb (getD word 252 0 + getD word 253 0 + getD word 254 0) 0)

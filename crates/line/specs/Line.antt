@@ -1,5 +1,5 @@
--- One line of the listing: "frame number from 1; `read` or `refused`; after `read` the house, poll, counter and wrong places, all decimal, single spaces;
--- after `refused` the number".
+-- One line of the listing. docs/SCOPE.md 7.1: "the frame number from 1; `read` or `refused`; after `read` the house, poll, counter and wrong places, all
+-- decimal, with single spaces; after `refused` the number".
 use mathlib.Core.Path.{_≡_}
 use mathlib.Core.Bool.{cond}
 use mathlib.Core.List.{List, [], _∷_, _++_}
@@ -13,7 +13,7 @@ use Rattle.sheet.specs.Number.{numberOf}
 use Rattle.layout.specs.declared.message.Reading.{Reading}
 use Rattle.frame.specs.declared.reading.ReadFrame.{ReadFrame}
 
--- the decimal digits of n in ASCII, highest first and none to spare; the first number bounds how many there are
+-- the decimal digits of n in ASCII, highest first, with no zeros in front; the first number bounds how many there are
 unfoldable pub digitsUpTo : ℕ → ℕ → List ℕ
 digitsUpTo zero n = []
 digitsUpTo (suc more) n = cond (ltb n 10) ((48 + n) ∷ []) (digitsUpTo more (n / 10) ++ ((48 + n % 10) ∷ []))

@@ -54,7 +54,7 @@ pub fn put_field(out: &mut [u8], at: usize, n: u64, after: &[u8]) -> usize
     end + after.len()
 }
 
-// The same for a number alone: what stands before its last digit, and then that digit.
+// The same for a number alone: first the digits before its last one, then the last one.
 fn put_decimal(out: &mut [u8], at: usize, n: u64) -> usize
     requires { ⌜ at + length (decimal n) ≤ length (now out) ⌝ }
     ensures { λ r. ⌜ Put (now (out .entry)) at (decimal n) (now (out .exit)) r ⌝ }

@@ -20,7 +20,7 @@ use Rattle.input.specs.Reads.{ReadsAfter}
 use Rattle.lister.specs.Listing.{frameAt, no-line, one-more, ListsFirst, start, step, TakesIn}
 use Rattle.lister.specs.Work.{Room, Going, AddsLine, ListedTo, movedFront}
 
--- the bytes from a frame's start to its end, or to theirs, are the frame
+-- the bytes from a frame's start to its end, or to the last byte if that comes first, are the frame
 pub frame-part : (bytes : List ℕ) (from to : ℕ) → from ≤ length bytes → to ≡ min (from + 32) (length bytes)
     → take (to - from) (drop from bytes) ≡ take 32 (drop from bytes)
 frame-part bytes from to h e = pick (decLt (from + 32) (length bytes))
@@ -31,7 +31,7 @@ frame-part bytes from to h e = pick (decLt (from + 32) (length bytes))
         let d = length-drop from bytes in
         take-all (to - from) (drop from bytes) (omega arith) ∙ sym (take-all 32 (drop from bytes) (omega arith))
 
--- the line of what the bytes from a frame's start to its end read as
+-- the line that is added is the line of the frame
 pub line-added : {number from to long : ℕ} {part : List ℕ} {answer : ReadFrame} (bytes lent : List ℕ) (end room : ℕ) → from ≤ length bytes
     → to ≡ min (from + 32) (length bytes) → Reads (take (to - from) (drop from bytes)) answer → room ≡ 128 → end + room ≤ length lent
     → length part ≡ length (take room (drop end lent))
@@ -70,13 +70,13 @@ pub all-listed : {before i count number end : ℕ} {bytes lent left : List ℕ} 
     → ListsFirst (before + 1) count bytes lent left end
 all-listed f e h = record { text = f .text; lines = rw e at (f .lines); written = put-line (f .put) h }
 
--- there is room for the lines of the front of the frames where there is for all
+-- if there is room for the lines of all frames, there is room for those of the first frames
 pub room-front : {listed : ℕ} {frames lines : List ℕ} (count : ℕ) → Room listed frames lines → Room listed (take count frames) lines
 room-front {frames = frames} count r = record { few = r .few; block = omega (arith, length-take count frames, r .block); long = r .long }
 
 -- what is left moves to the front
 
--- what is read stands no nearer to the front than what was written
+-- a byte that is read next has not been overwritten
 moved-at : (first : List ℕ) (from i : ℕ) → from + i < length first → getD (movedFront first from i) (from + i) 0 ≡ getD (drop from first) i 0
 moved-at first from i h =
     let done = take i (drop from first) in
@@ -101,7 +101,7 @@ one-moved first from i h =
     ∙ ap (λ (l : List ℕ). l ++ drop (suc i) first) (sym (take-suc source i 0 left))
     ∙ ap (movedFront first from) (sym (add-one i))
 
--- the part between two places, from either end
+-- the part between two places is the same whether its end or its start is cut off first
 between : (bytes : List ℕ) (from to : ℕ) → from ≤ to → to ≤ length bytes → drop from (take to bytes) ≡ take (to - from) (drop from bytes)
 between bytes from to h l =
     let e : from + (to - from) ≡ to = omega arith in

@@ -1,5 +1,5 @@
--- The listing: "writes one line each: frame number from 1; .. A short last frame is refused 9. .. empty input writes nothing." What it lists of bytes that
--- came in, and one step of it where they come in pieces.
+-- The listing: what it lists of bytes that came in, and one step of it where they come in pieces.
+-- docs/SCOPE.md 7.1: "It writes one line for each frame"; "A short last frame is refused 9. There is no header, and empty input writes nothing."
 use mathlib.Core.Path.{_≡_}
 use mathlib.Core.List.{List, [], _∷_, _++_}
 use Prim.Native.Nat.{ℕ, zero, suc, _+_, _*_, _/_, _%_}

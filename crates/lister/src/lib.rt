@@ -8,21 +8,21 @@ ghost use Rattle.lister.specs.Work.{Room, AddsLine, movedFront};
 use libc::STDERR_FILENO;
 use libc::STDOUT_FILENO;
 
-// How far the work is: the frames listed, the bytes held of a frame that has not all come, and the bytes of lines to write.
+// How far the work is: the frames listed, the bytes held of a frame that has come in part, and the bytes of lines to write.
 struct Progress {
     listed: u64,
     held: usize,
     end: usize,
 }
 
-// Until the input ends, a read or a write fails, or 1,000,000 frames are listed.
+// Lists frames until the input ends, a read or a write fails, or 1,000,000 frames are listed.
 pub fn list() {
     let mut frames = io::large_buffer();
     let mut lines = io::large_buffer();
     list_pieces(&mut frames[..16000], &mut lines);
 }
 
-// At most 32,000,000 bytes, so that what follows the millionth frame is left unread.
+// Reads at most 32,000,000 bytes, so that what follows the millionth frame is not read.
 fn list_pieces(frames: &mut [u8], lines: &mut [u8])
     requires { ⌜ (length (now frames) ≡ 16000) × (64000 ≤ length (now lines)) ⌝ }
 {
@@ -66,7 +66,7 @@ fn take_in(at: Progress, came: usize, frames: &mut [u8], lines: &mut [u8]) -> Pr
     }
 }
 
-// A frame that has not all come by the end of the input is short. After a read that failed its end may still be to come, so it gets no line.
+// A frame that has come in part at the end of the input is short. After a failed read its rest may still come, so it gets no line.
 fn end_input(failed: bool, at: Progress, frames: &[u8], lines: &mut [u8])
     requires { ⌜ Room (at .listed) (now frames) (now lines) × (at .held ≤ length (now frames)) ⌝ }
 {
@@ -127,7 +127,7 @@ fn add_line(number: u64, i: usize, frames: &[u8], end: usize, lines: &mut [u8]) 
     end + long
 }
 
-// Moves `count` bytes to the front. What is read was not written yet, since it stands no nearer to the front.
+// Moves `count` bytes to the front. A byte is read before it is overwritten, since it stands no nearer to the front than its new place.
 fn move_front(buffer: &mut [u8], from: usize, count: usize)
     requires { ⌜ from + count ≤ length (now buffer) ⌝ }
     ensures { λ _. ⌜ now (buffer .exit) ≡ movedFront (now (buffer .entry)) from count ⌝ }

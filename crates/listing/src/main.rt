@@ -1,4 +1,4 @@
-// Lists readings from standard input; see the crate lister.
+// Lists the readings of frames, 32 bytes each: a line for every frame that comes in.
 
 fn main() {
     lister::list();

@@ -1,4 +1,4 @@
--- If there is a set of places with these sums, it is what the trial finds; and there is at most one.
+-- If a set of places has these sums, the trial finds it; and there is at most one such set.
 use mathlib.Core.Path.{_≡_, _∙_, refl, sym, ap, ap₂}
 use mathlib.Core.Bool.{Bool, true, false}
 use mathlib.Core.List.{List, [], _∷_, map, List·Memᴰ, List·Memᴰ·head, List·Memᴰ·tail, List·Memᴰ·not-nil}
@@ -35,7 +35,7 @@ use Rattle.key.proofs.RunLaws.{series-at}
 use Rattle.locate.specs.Work.{valueFrom, tried, zeros, Tried, Agrees}
 use Rattle.locate.proofs.TrialLaws.{value-zero, value-suc, zeros-member, member-zeros, zeros-ascending}
 
--- two rows that agree at the even places, and whose odd places are squares of the places half as far, agree
+-- two rows agree if they agree at the even places and each odd place 2i + 1 holds the square of place i
 
 halves : (m : ℕ) (f g : ℕ → ℕ) (t : ℕ) → ((i : ℕ) → i < t → f (2 * i) ≡ g (2 * i))
     → ((i : ℕ) → i < t → f (2 * i + 1) ≡ f i ⊗⟨ m ⟩ f i) → ((i : ℕ) → i < t → g (2 * i + 1) ≡ g i ⊗⟨ m ⟩ g i)
@@ -85,7 +85,7 @@ module _ {m : ℕ} (L : IsField m) where
       ∙ ap₂ (λ x y. Sum._⊕_ x y) (power-number L (point p) (suc j) ∙ sym (power-mul L a p (suc j))) (points-sum ps j)
       ∙ sym (sumOver-cons m (suc j) p ps)
 
-  -- who is among them
+  -- which powers are among them
 
   point-member : {p : ℕ} (ps : List ℕ) → List·Memᴰ p ps → List·Memᴰ (point p) (points ps)
   point-member [] k = absurd (List·Memᴰ·not-nil k)
@@ -247,7 +247,7 @@ module _ {m t l : ℕ} {sums sigma ps : List ℕ} (s : SolvedFor m t sums l sigm
         → Agrees m t (take count places) sums r → r ≡ false → ⊥
     not-other w k c e = c .no e (λ i h. ap (sumOver m (2 * i + 1)) (w .all-of k ∙ zeros-are) ∙ u .same i h)
 
--- what is found are places
+-- every place that is found is below n
 pub found-below : {m t c count : ℕ} {sigma places : List ℕ} → Tried m t sigma c count places → count ≤ t → t ≤ length places
     → (i : ℕ) → i < count → getD places i 0 < nOf m
 found-below {m} {c = c} {count} {sigma} {places} w h l i k = zeros-member m sigma c (nOf m) (getD places i 0) (rw (w .all-of h) at here) .0

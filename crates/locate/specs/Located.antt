@@ -1,4 +1,4 @@
--- What it is to find the wrong places from the sums.
+-- What it is to find wrong places from sums. docs/SCOPE.md 4.10: "the set of at most t places below n whose sums are the stored ones".
 use mathlib.Core.Path.{_≡_}
 use mathlib.Core.List.{List, List·Memᴰ}
 use Prim.Native.Nat.{ℕ, _+_, _*_, _≤_, _<_}

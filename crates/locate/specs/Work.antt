@@ -20,7 +20,7 @@ valueFrom m y sigma k (suc c) = getD sigma k 0 ⊕ y ⊗⟨ m ⟩ valueFrom m y 
 abbrev pub tried : ℕ → List ℕ → ℕ → ℕ → ℕ
 tried m sigma c i = valueFrom m (power m a (nOf m - i)) sigma 0 c
 
--- the term with coefficient s at place j is added, where place i is tried
+-- the value at place i with the term of coefficient s at place j added
 abbrev pub plusTerm : ℕ → ℕ → ℕ → List ℕ → ℕ → ℕ
 plusTerm m s j before i = getD before i 0 ⊕ power m (power m a (nOf m - i)) j ⊗⟨ m ⟩ s
 
@@ -29,7 +29,7 @@ unfoldable pub zeros : ℕ → List ℕ → ℕ → ℕ → List ℕ
 zeros m sigma c zero = []
 zeros m sigma c (suc i) = cond (eqb (tried m sigma c i) 0) (zeros m sigma c i ++ (i ∷ [])) (zeros m sigma c i)
 
--- place i is one more of those found if v is 0, and is written down where there is room for t
+-- if v is 0, place i is one more of those found, and it is written down if fewer than t were found before
 pub record NotedOne (v i t found : ℕ) (before : List ℕ) (count : ℕ) (after : List ℕ) : Type 0 where
   pub same : length after ≡ length before
   pub miss : (v ≡ 0 → ⊥) → (count ≡ found) × (take found after ≡ take found before)

@@ -13,7 +13,7 @@ ghost use Rattle.sums.specs.OddSums.{OddSums};
 ghost use Rattle.locate.specs.Search.{Searched, WordSearched};
 ghost use Rattle.locate.specs.Work.{plusTerm, tried, NotedOne, Tried, Agrees, Sought};
 
-// How many places were found, or that no set of places has these sums.
+// How many places were found, or the answer that no set of places has these sums.
 pub enum Found {
     Places(usize),
     Nothing,
@@ -31,7 +31,7 @@ fn values_space() -> [u16; 1023]
     [0; 1023]
 }
 
-// To the values of all places the term with coefficient s at place j is added. Place i is tried at a^(n-i), so from one place to the next
+// Adds the term with coefficient s at place j to the values of all places. Place i is tried at a^(n-i), so from one place to the next
 // the term is multiplied by a^(n-j).
 fn add_term(m: usize, powers: &[u16], logs: &[u16], s: u16, j: usize, values: &mut [u16])
     requires { ⌜ (Tables m (now powers) (now logs)) × (s < 2 ^ m) × (nOf m ≤ length (now values)) ⌝ }
@@ -66,7 +66,7 @@ fn all_values(
     }
 }
 
-// Writes place i down if the value v there is 0, and answers how many are found then: t + 1 if there is no more room.
+// Counts place i if the value v there is 0, and writes it down if there is room. Answers how many are found then; t + 1 means that the room was full.
 fn note(v: u16, i: usize, t: usize, found: usize, places: &mut [u16]) -> usize
     requires { ⌜ (i < 1024) × (found ≤ t) × (t ≤ length (now places)) ⌝ }
     ensures { λ f. ⌜ NotedOne v i t found (now (places .entry)) f (now (places .exit)) ⌝ }
@@ -81,7 +81,7 @@ fn note(v: u16, i: usize, t: usize, found: usize, places: &mut [u16]) -> usize
     found + 1
 }
 
-// All places at which sigma is zero, ascending. Given up when more than t are found.
+// Writes down all places at which sigma is zero, ascending, and answers how many there are. The search stops when more than t are found.
 fn try_all(
     m: usize,
     powers: &[u16],
@@ -122,7 +122,7 @@ fn compare(m: usize, powers: &[u16], t: usize, places: &[u16], count: usize, sum
     entries::same_first(t, &own, sums)
 }
 
-// Writes the places down, and answers how many there are, or something above t where there are none such.
+// Writes down the places that have these sums, and answers how many there are; a number above t means that no set of at most t places has them.
 fn find_places(
     m: usize,
     powers: &[u16],
@@ -157,7 +157,7 @@ fn places_space() -> [u16; 255]
     [0; 255]
 }
 
-// The places whose odd sums, the first t, are the given ones: at most t places, or none such. Logarithms are made only where something is wrong.
+// The set of at most t places whose first t odd sums are the given ones, if there is one. Logarithms are made only where something is wrong.
 fn locate(m: usize, t: usize, powers: &[u16], sums: &[u16]) -> Search
     requires { ⌜ (IsField m) × (Powers m (now powers)) × (t ≤ 255) × (t ≤ length (now sums)) × ((i : ℕ) → i < t → getD (now sums) i 0 < 2 ^ m) ⌝ }
     ensures { λ r. ⌜ Searched m t (now (sums .entry)) r ⌝ }

@@ -26,7 +26,7 @@ front-of-front zero text byte = refl
 front-of-front (suc n) [] byte = refl
 front-of-front (suc n) (x ∷ text) byte = ap (λ (r : List ℕ). x ∷ r) (front-of-front n text byte)
 
--- where the front of a line is held, the front of it with the byte at its end is held then
+-- if the front of a line is held, then afterwards the front of the line with the byte at its end is held
 pub keeps-front : {line left : List ℕ} {at next : Progress} {byte : ℕ} (begun : List ℕ) → Keeps line at byte left next → Holds line (at .held) begun
     → Holds left (next .held) (begun ++ (byte ∷ []))
 keeps-front {byte = byte} begun k h =

@@ -1,4 +1,4 @@
--- The lines of a text that comes in two pieces, and what lines give that come in two pieces.
+-- The lines of a text that comes in two pieces, and what these lines give.
 use mathlib.Core.Path.{_≡_, _∙_, refl, sym, ap, ap₂, subst}
 use mathlib.Core.List.{List, [], _∷_, _++_, append-nil, append-assoc}
 use Prim.Native.Nat.{ℕ, suc, _+_, _≤_}
@@ -28,7 +28,7 @@ begun-end : (begun : List ℕ) (b : ℕ) (bs : List ℕ) → b ≡ 10 → begunO
 unfolding begunOf
 begun-end begun b bs e = rw (eq-eqb b 10 e)
 
--- it is none
+-- the byte is not a newline
 
 lines-on : (begun : List ℕ) (b : ℕ) (bs : List ℕ) → (b ≡ 10 → ⊥) → linesOf begun (b ∷ bs) ≡ linesOf (begun ++ (b ∷ [])) bs
 unfolding linesOf

@@ -1,4 +1,5 @@
--- Making frames of typed lines: a text is split into lines at its newlines; a line gives its frame or, where it says no reading, its name.
+-- Making frames of typed lines: a line gives its frame or, where it says no reading, its name.
+-- docs/SCOPE.md 8: "A text is split into lines at its newlines. What stands after the last newline is a line too, unless it is empty."
 use mathlib.Core.Path.{_≡_}
 use mathlib.Core.Bool.{cond}
 use mathlib.Core.List.{List, [], _∷_, _++_}
@@ -23,7 +24,7 @@ unfoldable pub begunOf : List ℕ → List ℕ → List ℕ
 begunOf begun [] = begun
 begunOf begun (b ∷ bs) = cond (eqb b 10) (begunOf [] bs) (begunOf (begun ++ (b ∷ [])) bs)
 
--- at the end of the input that is a line too, unless it is empty
+-- at the end of the input, the line that has begun is a line too, unless it is empty
 abbrev pub lastOf : List ℕ → List (List ℕ)
 lastOf [] = []
 lastOf (b ∷ bs) = (b ∷ bs) ∷ []
@@ -67,7 +68,7 @@ pub record Takes (lines : ℕ) (begun bytes frames names : List ℕ) (after : Pr
   pub counts : after .lines ≡ lines + length (linesOf begun bytes)
   pub holds : Holds line (after .held) (begunOf begun bytes)
 
--- The promise for bytes, for every line that may have begun with what is held: what they give stands at the front of the two buffers, the rest as lent.
+-- The promise for bytes, for every line that may have begun with what is held: what they give stands at the front of both buffers, and the rest is as lent.
 pub record Fills (before : Progress) (line bytes lent-frames lent-names : List ℕ) (after : Progress) (left-line left-frames left-names : List ℕ) : Type 0 where
   pub frames : List ℕ
   pub names : List ℕ

@@ -15,7 +15,7 @@ pub record Room (line frames names : List ℕ) : Type 0 where
   pub for-frames : length frames ≡ 65536
   pub for-names : length names ≡ 65536
 
--- between two reads: what was read so far gave what was written so far, and of the line that has begun the front is held
+-- between two reads: what was read so far gave what was written so far, and the front of the line that has begun is held
 pub record Going (at : Progress) (left : ℕ) (line : List ℕ) : Type 0 where
   pub bytes : List ℕ
   pub frames : List ℕ
@@ -58,7 +58,7 @@ pub record Steps (at : Progress) (line bytes frames names : List ℕ) (next : Pr
   pub few : Few (length bytes) at next
   pub takes : (begun : List ℕ) → Holds line (at .held) begun → Takes (at .lines) begun bytes made named next line′
 
--- what is held of a line and the byte after it, as far as 63 bytes, is held; all else is as it was
+-- the byte is put after what is held of a line, and the first 63 bytes of this are held; all else is as it was
 pub record Keeps (line : List ℕ) (at : Progress) (byte : ℕ) (left : List ℕ) (next : Progress) : Type 0 where
   pub lines : next .lines ≡ at .lines
   pub frames : next .frames ≡ at .frames

@@ -20,7 +20,7 @@ pub struct Progress {
     pub names: usize,
 }
 
-// Until the input ends, a read or a write fails, or 64,000,000 bytes are read.
+// Makes frames until the input ends, a read or a write fails, or 64,000,000 bytes are read.
 pub fn make_frames() {
     let mut block = block_space();
     let mut line = line_space();
@@ -29,7 +29,7 @@ pub fn make_frames() {
     make_blocks(&mut block, &mut line, &mut frames, &mut names);
 }
 
-// 1,000 bytes end at most 1,000 lines, whose frames and names have room.
+// A block of 1,000 bytes ends at most 1,000 lines, and the buffers have room for their frames and names.
 fn block_space() -> [u8; 1000]
     ensures { λ r. ⌜ 1000 ≡ length r ⌝ }
 {
@@ -81,7 +81,7 @@ fn end_input(failed: bool, at: Progress, line: &[u8], frames: &mut [u8], names: 
     write_out(last, frames, names);
 }
 
-// The frames go out before the names. Whether both were taken.
+// Writes the frames, then the names. Gives whether both were written.
 fn write_out(at: Progress, frames: &[u8], names: &[u8]) -> bool
     requires { ⌜ (at .frames ≤ length (now frames)) × (at .names ≤ length (now names)) ⌝ }
 {
@@ -116,7 +116,7 @@ fn fill_frames(
     at
 }
 
-// The same at the end of the input: a last line without its end counts; nothing after the last end is no line.
+// The same at the end of the input: what stands after the last newline is a line too, unless it is empty.
 fn fill_last(before: Progress, line: &[u8], frames: &mut [u8], names: &mut [u8]) -> Progress
     requires { ⌜ Ready 1 before (now line) (now frames) (now names) ⌝ }
     ensures { λ r. ⌜ FillsLast before (now (line .entry)) (now (frames .entry)) (now (names .entry)) r (now (frames .exit)) (now (names .exit)) ⌝ }
@@ -156,7 +156,7 @@ fn take_byte(
     keep(byte, at, line)
 }
 
-// One byte more of the line; where there is no room it is dropped.
+// Keeps one byte more of the line. If there is no room, the byte is dropped.
 fn keep(byte: u8, at: Progress, line: &mut [u8]) -> Progress
     requires { ⌜ (length (now line) ≡ 63) × (at .held ≤ 63) ⌝ }
     ensures { λ r. ⌜ Keeps (now (line .entry)) at byte (now (line .exit)) r ⌝ }

@@ -1,4 +1,4 @@
-// Makes frames of typed lines from standard input; see the crate maker.
+// Makes a frame, 32 bytes, of every typed line "house poll counter" that comes in.
 
 fn main() {
     maker::make_frames();

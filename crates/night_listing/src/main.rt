@@ -1,4 +1,4 @@
-// Lists readings from standard input; the file stdin is six nights of made-up readings, more than one block, and the file stdout what the second program lists of it.
+// A test: the program listing with six nights of made-up readings as its stored input; the second program lists the same.
 
 fn main() {
     lister::list();

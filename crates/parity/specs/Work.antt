@@ -39,8 +39,8 @@ pub record StretchFits (word : List ℕ) (at start : ℕ) (stretch : List ℕ) :
   pub word-bits : AreBits word
   pub stretch-bits : AreBits stretch
 
--- the change of a message at the front of room for any word: from `start` on the stretch and the old bits,
--- which stand in the word from place `at` on, added; zeros elsewhere
+-- the change of a message, at the front of room for any word: from `start` on, the sum of the stretch and the old bits,
+-- which stand in the word from place `at` on; zeros elsewhere
 pub record MessageChange (word : List ℕ) (at start : ℕ) (stretch change : List ℕ) : Type 0 where
   pub long : 1024 ≡ length change
   pub bits : AreBits change

@@ -29,7 +29,7 @@ fn place_message(d: usize, message: &[u8], word: &mut [u8])
     bits::copy_at(word, d, message);
 }
 
-// To a word that is clear below place d, what is left of it after division by g of degree d.
+// Adds to the word, which is clear below place d, what is left of it after division by g of degree d.
 fn add_parity(word: &mut [u8], g: &[u8], d: usize)
     requires { ⌜ Divisible d (now g) (now word) ⌝ }
     ensures { λ _. ⌜ WithParity d (now (g .entry)) (now (word .entry)) (now (word .exit)) ⌝ }
@@ -41,7 +41,7 @@ fn add_parity(word: &mut [u8], g: &[u8], d: usize)
     bits::add_at(word, 0, &space[..d]);
 }
 
-// The same at the front of room for any word.
+// The code word that carries the message, at the front of room for any word.
 pub fn code_word(code: Code, message: &[u8]) -> [u8; 1024]
     requires { ⌜ MessageOf code (now message) ⌝ }
     ensures { λ r. ⌜ Encoding (code .m) (code .t) (code .k) (now (message .entry)) (take (code .n) r) × (1024 ≡ length r) ⌝ }
@@ -52,7 +52,7 @@ pub fn code_word(code: Code, message: &[u8]) -> [u8; 1024]
     space
 }
 
-// The change of the message: from `start` on the stretch and the old bits, which stand in the word from place `at` on, added; zeros elsewhere.
+// The change of a message: from `start` on, the sum of the stretch and the old bits, which stand in the word from place `at` on; zeros elsewhere.
 pub fn message_change(word: &[u8], at: usize, start: usize, stretch: &[u8]) -> [u8; 1024]
     requires { ⌜ StretchFits (now word) at start (now stretch) ⌝ }
     ensures { λ r. ⌜ MessageChange (now (word .entry)) at start (now (stretch .entry)) r ⌝ }

@@ -38,7 +38,7 @@ equal {a} {b} e = ap not (eq-eqb a b e)
 pub unequal : {a b : ℕ} → (a ≡ b → ⊥) → not (eqb a b) ≡ true
 unequal {a} {b} n = ap not (ne-eqb a b n)
 
--- what the first checks come to, and then the later ones
+-- the later checks decide only where the first ones pass
 pub earlier-refuse : (first later : List Check) {r : Refusal} → verdict first ≡ Refused r → verdict (first ++ later) ≡ Refused r
 earlier-refuse [] later e = absurd (not-done (sym e))
 earlier-refuse ((true ⇒ r) ∷ first) later e = e
@@ -70,7 +70,7 @@ module _ {L : Type 0} {Does : Outcome → L → Type 0} {stays : L} where
   pub does : {checks : List Check} {answer : Outcome} {left : L} → verdict checks ≡ Done → Does answer left → Promise checks Does stays answer left
   does e d = record { refused = λ s z. absurd (not-done (sym z ∙ e)); done = λ z. d }
 
-  -- what is refused leaves everything, where what is done does so too
+  -- a refusal leaves everything as it was, if a refusal past the checks does so
   pub refused-stays : {checks : List Check} {answer : Outcome} {left : L} → (Does answer left → answer ≢ Done → left ≡ stays)
       → Promise checks Does stays answer left → answer ≢ Done → left ≡ stays
   refused-stays {checks} {answer} {left} d p n = pick (verdict-cases (verdict checks))
@@ -79,7 +79,7 @@ module _ {L : Type 0} {Does : Outcome → L → Type 0} {stays : L} where
       pick (passed e) = d (p .done e) n
       pick (refused r e) = p .refused r e .1
 
-  -- one outcome, where what is done is one
+  -- a promise leaves one outcome if what is done past the checks has one outcome
   pub promise-one : {checks : List Check} {x y : Outcome} {left left′ : L}
       → (verdict checks ≡ Done → Does x left → Does y left′ → (x ≡ y) × (left ≡ left′))
       → Promise checks Does stays x left → Promise checks Does stays y left′ → (x ≡ y) × (left ≡ left′)
@@ -116,7 +116,7 @@ module _ {L : Type 0} {Did : L → Type 0} where
       → verdict checks ≡ Done
   done-passed p e = sym (answer-is p) ∙ e
 
--- an operation that searches: one outcome, where what is found is one and is not found where there is nothing
+-- an operation that searches has one outcome, if at most one thing can be found and nothing can be found where `Nothing` holds
 pub search-one : {L : Type 0} {Found : L → Type 0} {Nothing : Type 0} {stays : L} {x y : Outcome} {left left′ : L}
     → (Found left → Found left′ → left ≡ left′) → ((l : L) → Found l → Nothing → ⊥)
     → Searches Found Nothing stays x left → Searches Found Nothing stays y left′ → (x ≡ y) × (left ≡ left′)
@@ -138,7 +138,7 @@ NotAmong n ((b ⇒ r) ∷ later) = T (not (eqb (numberOf r) n)) × NotAmong n la
 pub same-refusal : {r s : Refusal} → Refused r ≡ Refused s → r ≡ s
 same-refusal {r} {s} e = cc
 
--- checks do not come to a refusal that none of them has
+-- the checks never come to a refusal that none of them has
 pub never-refused : (checks : List Check) (r : Refusal) → NotAmong (numberOf r) checks → verdict checks ≢ Refused r
 never-refused [] r n e = not-done (sym e)
 never-refused ((true ⇒ s) ∷ later) r (p, n) e =
@@ -159,7 +159,7 @@ module _ {L : Type 0} {Found : L → Type 0} {Nothing : Type 0} {stays : L} {che
       pick (passed z) = inr (found z (p .done z))
       pick (refused s z) = inl (z ∙ sym (p .refused s z .0) ∙ e)
 
-  -- exactly: what is found is not found where there is nothing
+  -- the converse holds too, if nothing can be found where `Nothing` holds
   pub search-exactly : ((l : L) → Found l → Nothing → ⊥) → (r : Refusal)
       → (answer ≡ Refused r) ↔ ((verdict checks ≡ Refused r) ⊎ ((verdict checks ≡ Done) × ((r ≡ NothingNear) × Nothing)))
   search-exactly c r = (λ e. search-refused e, back)

@@ -1,4 +1,4 @@
--- The sheet's number of each refusal and of each outcome.
+-- The number of each refusal and of each outcome. docs/SCOPE.md 5.1: "Each refusal has one number and one condition."
 use Prim.Native.Nat.{ℕ}
 use Rattle.sheet.specs.declared.Refusal.{Refusal}
 use Rattle.sheet.specs.declared.Refusal.the-variants.{FieldSize, NotListed, InputLength, OutputLength, BitAboveOne, NothingNear}

@@ -1,4 +1,5 @@
 -- How an operation runs down the sheet, and the shape of every promise: the checks refuse and everything stays, or they pass and the operation does its work.
+-- docs/SCOPE.md 5.1: "It is given exactly when its condition holds and no earlier check of the operation has refused." 5.3: "No lent buffer changes."
 use mathlib.Core.Path.{_≡_}
 use mathlib.Core.Bool.{Bool, true, false}
 use mathlib.Core.List.{List, [], _∷_}
@@ -28,12 +29,12 @@ pub record Promise {L : Type 0} (checks : List Check) (Does : Outcome → L → 
   pub refused : (r : Refusal) → verdict checks ≡ Refused r → (answer ≡ Refused r) × (left ≡ stays)
   pub done : verdict checks ≡ Done → Does answer left
 
--- what an operation does that refuses nothing once its checks have passed
+-- what is done by an operation that refuses nothing once its checks have passed
 pub record Always {L : Type 0} (Did : L → Type 0) (answer : Outcome) (left : L) : Type 0 where
   pub is-done : answer ≡ Done
   pub did : Did left
 
--- what an operation does that searches: it finds something; or it answers 6, there is nothing to find, and everything stays
+-- what is done by an operation that searches: it finds something; or it answers 6, there is nothing to find, and everything stays
 pub data Searches {L : Type 0} (Found : L → Type 0) (Nothing : Type 0) (stays : L) (answer : Outcome) (left : L) : Type 0 where
   finds : answer ≡ Done → Found left → Searches Found Nothing stays answer left
   finds-nothing : answer ≡ Refused NothingNear → Nothing → left ≡ stays → Searches Found Nothing stays answer left

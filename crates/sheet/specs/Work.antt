@@ -1,4 +1,4 @@
--- What checks leave that have all passed; no promise rests on it.
+-- What is known where all checks have passed; no promise rests on it.
 use mathlib.Core.Path.{_≡_}
 use mathlib.Core.Bool.{false}
 use mathlib.Core.List.{List, [], _∷_}

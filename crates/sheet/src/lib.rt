@@ -1,4 +1,4 @@
-// The refusal sheet: one variant for each number, with the condition under which it is given where no earlier check has refused; and what the checks come to.
+// The refusal sheet: one variant for each number, with its condition; it is given where no earlier check has refused. Also what the checks come to.
 
 ghost use mathlib.Core.Path.{_≡_};
 ghost use Rattle.sheet.specs.Number.{numberOf, outcomeNumber};

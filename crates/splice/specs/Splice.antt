@@ -1,5 +1,6 @@
--- Splice: "kept record, start place, stretch. Gives the record with these places replaced and, to each of the first t stored sums, the sum over the places
--- that changed added, also in a record built by hand; all else as it was." Refusals 1, 2, 7, 12, 5; a refused Splice gives back the record it got.
+-- Splice. docs/SCOPE.md 4.9: "Takes a kept record, a start place and a stretch. Gives the record with these places replaced and, to each of the first t
+-- stored sums, the sum over the places that changed added, also in a record built by hand; all else is as it was."
+-- 5.2: its checks are 1, 2, 7, 12, 5. 5.3: "a refused Splice gives back the record it got".
 use mathlib.Core.Path.{_≡_}
 use mathlib.Core.List.{List, [], _∷_}
 use Prim.Native.Nat.{ℕ, _+_, _*_, _≤_, _<_}
@@ -24,11 +25,11 @@ spliceChecks stored start stretch c =
     ∷ hasBadBit stretch ⇒ BitAboveOne
     ∷ []
 
--- to S_(2i+1) is added the sum over the places that changed
+-- S_(2i+1) plus the sum over the places that changed
 abbrev pub plusChange : Code → Kept → List ℕ → ℕ → ℕ
 plusChange c stored after i = getD (stored .sums) i 0 ⊕ sumOver (c .m) (2 * i + 1) (differences (stored .bits) after)
 
--- the stretch from its start on, the first t sums with the change, all else as it was, the lengths too
+-- the stretch stands from its start on, the first t sums have the change added, and all else is as it was, the lengths too
 pub record Spliced (c : Code) (stored : Kept) (start : ℕ) (stretch : List ℕ) (after : Kept) : Type 0 where
   pub was-whole : Whole stored
   pub is-whole : Whole after
@@ -38,7 +39,7 @@ pub record Spliced (c : Code) (stored : Kept) (start : ℕ) (stretch : List ℕ)
   pub sums-changed : (i : ℕ) → i < c .t → getD (after .sums) i 0 ≡ plusChange c stored (after .bits) i
   pub sums-rest : (i : ℕ) → c .t ≤ i → getD (after .sums) i 0 ≡ getD (stored .sums) i 0
 
--- refused, the record is the one it got
+-- where it is refused, the record is the one it got
 abbrev pub Splices : Kept → ℕ → List ℕ → Answer → Type 0
 Splices stored start stretch a =
     CodePromise (stored .m) (stored .t) (spliceChecks stored start stretch) (λ c. Always (Spliced c stored start stretch)) stored (a .outcome) (a .record)

@@ -42,13 +42,13 @@ pub record PlaceReady (m : ℕ) (powers : List ℕ) (t p : ℕ) (bits sums : Lis
   pub bits-room : p < length bits
   pub sums-room : t ≤ length sums
 
--- b stands at place p; the sums are as they were where it stood there, and have the place added where it did not
+-- b stands at place p; if it stood there before, the sums are as they were, and if not, they have the place added
 pub record PlaceSpliced (m t b p : ℕ) (bits sums bits′ sums′ : List ℕ) : Type 0 where
   pub is-bits : bits′ ≡ set bits p b
   pub same : getD bits p 0 ≡ b → sums′ ≡ sums
   pub changed : getD bits p 0 ≢ b → Filled (plusPower m (power m a p) sums) t sums sums′
 
--- to S_(2i+1) is added the sum over these places
+-- S_(2i+1) plus the sum over these places
 abbrev pub plusPlaces : ℕ → List ℕ → List ℕ → ℕ → ℕ
 plusPlaces m places before i = getD before i 0 ⊕ sumOver m (2 * i + 1) places
 

@@ -94,7 +94,7 @@ fn splice_stretch(
     }
 }
 
-// Where the place does not hold b it comes to hold it, and the sums are brought up to date.
+// Where place p does not hold b yet, b is written there and the place is added to the sums.
 fn splice_place(
     m: usize,
     powers: &[u16],

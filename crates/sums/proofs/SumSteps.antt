@@ -25,7 +25,7 @@ use Rattle.field.proofs.Exponents.{around-power}
 use Rattle.sums.specs.Rows.{plusPower, wordSum, placeSum, Ones}
 use Rattle.sums.specs.OddSums.{OddSums}
 
--- from a^p on by a^(2p): the odd powers of a^p
+-- a walk from exponent p on by 2p adds the odd powers of a^p
 pub place-added : {m n step t : ℕ} {before after : List ℕ} (p : ℕ) → IsField m → n ≡ nOf m → step ≡ 2 * p % n
     → Filled (plusWalk m p step before) t before after → Filled (plusPower m (power m a p) before) t before after
 place-added {m} {n} {step} {before = before} p L is q u = fill-as u (λ i h. ap (λ z. getD before i 0 ⊕ z) (power-add L a p (step * i) ∙ odd i))

@@ -1,4 +1,4 @@
--- The row of odd sums: entry i is S_(2i+1).
+-- The row of odd sums: entry i is S_(2i+1). docs/SCOPE.md 3.1: "the odd ones S_1, S_3, .. S_(2t-1) are enough".
 use mathlib.Core.Path.{_≡_}
 use mathlib.Core.List.{List}
 use Prim.Native.Nat.{ℕ, _+_, _*_, _≤_, _<_}

@@ -11,7 +11,7 @@ ghost use Rattle.field.specs.Tables.{Powers};
 ghost use Rattle.sums.specs.Rows.{plusPower, wordSum, placeSum, Ones, Vanish};
 ghost use Rattle.sums.specs.OddSums.{OddSums};
 
-// To the first t entries x, x^3, x^5, .. is added, x = a^p: the powers of a from exponent p on, by 2p.
+// Adds x, x^3, x^5, .. to the first t entries, where x is a^p. The exponents of a are p, 3p, 5p, ..
 pub fn add_place(m: usize, powers: &[u16], p: usize, t: usize, sums: &mut [u16])
     requires { ⌜ (IsField m) × (Powers m (now powers)) × (p < nOf m) × (t ≤ length (now sums)) ⌝ }
     ensures { λ _. ⌜ Filled (plusPower m (power m a p) (now (sums .entry))) t (now (sums .entry)) (now (sums .exit)) ⌝ }
@@ -50,7 +50,7 @@ fn places_space() -> [u16; 1023]
     [0; 1023]
 }
 
-// Writes down the places of a word that hold 1, and answers how many there are. It does not branch by the bits, which a processor cannot foresee.
+// Writes down the places of a word that hold 1, and answers how many there are. It does not branch on the bits, since a processor cannot predict them.
 fn list_ones(word: &[u8], places: &mut [u16]) -> usize
     requires { ⌜ (AreBits (now word)) × (length (now word) ≤ 1023) × (1023 ≡ length (now places)) ⌝ }
     ensures { λ r. ⌜ Ones (now (word .entry)) r (now (places .exit)) ⌝ }

@@ -19,7 +19,7 @@ pub value-cons : (v d : ℕ) (ds : List ℕ) → valueFrom v (d ∷ ds) ≡ valu
 unfolding valueFrom
 value-cons v d ds = refl
 
--- more digits make no number smaller
+-- further digits never make a number smaller
 value-least : (v : ℕ) (ds : List ℕ) → v ≤ valueFrom v ds
 value-least v [] = rw (value-nil v) (omega arith)
 value-least v (d ∷ ds) = rw (value-cons v d ds) (omega (arith, value-least (10 * v + (d - 48)) ds))

@@ -55,7 +55,7 @@ module _ {line : List ℕ} {i : ℕ} (at : BlankAt line i) (h : i < length line)
       let r = one-split (p .text) (take i line) (p .rest) (past line i) (digits-no-blank (p .text) (p .number .digits)) (at .before) (sym (p .is) ∙ split) in
       (subst (λ (t : List ℕ). Number t below n) (r .0) (p .number), subst After (r .1) (p .after))
 
--- a line without a blank is no number with more after it
+-- a line without a blank is not a number, a blank and a rest
 pub no-parts : {line : List ℕ} {i below n : ℕ} {After : List ℕ → Type 0} → BlankAt line i → i ≡ length line → NumberThen line below n After → ⊥
 no-parts {line} {i} at e p =
     let b : NoBlank line = subst NoBlank (ap (λ (k : ℕ). take k line) e ∙ take-length line) (at .before) in

@@ -1,4 +1,4 @@
--- A typed line: it says house, poll and counter if it is three decimal numbers with one blank between them, nothing else.
+-- A typed line. docs/SCOPE.md 8: "A line says a reading if it is three decimal numbers with one blank between them and nothing else".
 use mathlib.Core.Path.{_≡_}
 use mathlib.Core.List.{List, [], _∷_, _++_}
 use Prim.Native.Nat.{ℕ, _+_, _-_, _*_, _^_, _≤_, _<_}
@@ -17,7 +17,7 @@ unfoldable pub valueFrom : ℕ → List ℕ → ℕ
 valueFrom v [] = v
 valueFrom v (d ∷ ds) = valueFrom (10 * v + (d - 48)) ds
 
--- 1 to 20 digits whose value is n; zeros may stand in front
+-- docs/SCOPE.md 8: "A number has 1 to 20 digits."; its value is n, and zeros may stand in front
 pub record Number (text : List ℕ) (below n : ℕ) : Type 0 where
   pub some : 1 ≤ length text
   pub few : length text ≤ 20
@@ -33,7 +33,7 @@ pub record NumberThen (line : List ℕ) (below n : ℕ) (After : List ℕ → Ty
   pub number : Number text below n
   pub after : After rest
 
--- house and poll below 65,536, counter below 2^64
+-- docs/SCOPE.md 8: "House and poll are below 65,536, the counter is below 2^64."
 
 abbrev pub SaysCounter : Reading → List ℕ → Type 0
 SaysCounter reading rest = Number rest (2 ^ 64) (reading .counter)

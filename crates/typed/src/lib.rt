@@ -10,7 +10,7 @@ pub enum Typed {
     Nothing,
 }
 
-// A number that was read, or that there is none.
+// A number that was read, or the answer that there is none.
 enum Value {
     Is(u64),
     Nothing,
@@ -105,7 +105,7 @@ fn spelled(text: &[u8], most: u64) -> Value
     Value::Is(value)
 }
 
-// A number with one more digit after it. It is compared before it is made, since it could wrap.
+// A number with one more digit after it. The bound is checked first, since the longer number could wrap.
 fn with_digit(value: u64, byte: u8, most: u64) -> Value
     requires { ⌜ 9 ≤ most ⌝ }
     ensures { λ r. ⌜ AnswersDigit value byte most r ⌝ }

@@ -41,7 +41,7 @@ added-next {m} {i} {d} {j} {x} start step {before} {after} s e h p =
 added-none : (m start step i : ℕ) (xs : List ℕ) → Added m start step i 0 xs xs
 added-none m start step i xs = record { same = refl; holds = λ k h. absurd (omega arith); low = λ k h. refl; high = λ k h. refl }
 
--- an exponent that goes on by as many steps
+-- an exponent that goes on by i more steps
 walked-on : {m : ℕ} → IsField m → (start step e d j i : ℕ) → power m a e ≡ power m a (start + step * j)
     → power m a d ≡ power m a (step * i) → power m a (e + d) ≡ power m a (start + step * (j + i))
 walked-on {m} L start step e d j i here q =

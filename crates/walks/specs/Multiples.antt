@@ -8,11 +8,11 @@ use Rattle.field.specs.Sum.{_⊕_}
 use Rattle.field.specs.Product.{_⊗⟨_⟩_}
 use Rattle.field.specs.Power.{a, nOf, power}
 
--- to entry i is added s times a^(step i)
+-- entry i plus s times a^(step i)
 abbrev pub plusMultiple : ℕ → ℕ → ℕ → List ℕ → ℕ → ℕ
 plusMultiple m s step before i = getD before i 0 ⊕ s ⊗⟨ m ⟩ power m a (step * i)
 
--- a^(from + step i) is added
+-- entry i plus a^(from + step i)
 abbrev pub plusWalk : ℕ → ℕ → ℕ → List ℕ → ℕ → ℕ
 plusWalk m from step before i = getD before i 0 ⊕ power m a (from + step * i)
 
@@ -22,12 +22,12 @@ plusWalk m from step before i = getD before i 0 ⊕ power m a (from + step * i)
 abbrev pub plusAt : List ℕ → ℕ → ℕ → List ℕ
 plusAt xs j v = set xs j (bitXor (getD xs j 0) v)
 
--- to the four entries from place j on, the powers with these exponents
+-- the powers with these exponents are added to the four entries from place j on
 abbrev pub plusFour : List ℕ → ℕ → ℕ → ℕ → ℕ → ℕ → List ℕ → List ℕ
 plusFour powers e f g h j xs =
     plusAt (plusAt (plusAt (plusAt xs j (getD powers e 0)) (j + 1) (getD powers f 0)) (j + 2) (getD powers g 0)) (j + 3) (getD powers h 0)
 
--- to d entries from place i on are added a^start, a^(start + step), .., and the others are as before
+-- a^start, a^(start + step), .. are added to d entries from place i on, and the others are as before
 pub record Added (m start step i d : ℕ) (before after : List ℕ) : Type 0 where
   pub same : length after ≡ length before
   pub holds : (k : ℕ) → k < d → getD after (i + k) 0 ≡ getD before (i + k) 0 ⊕ power m a (start + step * k)

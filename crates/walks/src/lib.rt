@@ -9,7 +9,7 @@ ghost use Rattle.field.specs.Power.{nOf};
 ghost use Rattle.field.specs.Tables.{Powers, Tables};
 ghost use Rattle.walks.specs.Multiples.{plusMultiple, plusWalk, plusAt, plusFour, Walked};
 
-// To each of the first `count` entries s times the next power of a^step is added, from s itself on.
+// Adds s, s times a^step, s times a^(2 step), .. to the first `count` entries.
 pub fn add_multiples(
     m: usize,
     powers: &[u16],
@@ -28,8 +28,8 @@ pub fn add_multiples(
     }
 }
 
-// To each of the first `count` entries the next power of a is added, the exponents from `from` on by `step`: one look into the table each.
-// After the first few entries they go by fours, since none of the four looks waits for another.
+// Adds the powers of a with the exponents `from`, `from` + `step`, .. to the first `count` entries, with one look into the table for each.
+// After the first few, the entries are taken four at a time, since none of the four looks has to wait for another.
 pub fn add_walk(
     m: usize,
     powers: &[u16],
@@ -55,7 +55,7 @@ pub fn add_walk(
     }
 }
 
-// The first `count` entries one by one, exponents kept below n. Gives the exponent for the next.
+// Adds to the first `count` entries one by one and keeps the exponents below n. Gives the exponent for the next entry.
 fn add_first(
     m: usize,
     powers: &[u16],
@@ -78,7 +78,7 @@ fn add_first(
     e
 }
 
-// To the four entries from place j on, the powers with these exponents.
+// Adds the powers with these exponents to the four entries from place j on.
 fn add_four(powers: &[u16], e: usize, f: usize, g: usize, h: usize, j: usize, entries: &mut [u16])
     requires { ⌜ (e < length (now powers)) × (f < length (now powers)) × (g < length (now powers)) × (h < length (now powers))
         × (j + 4 ≤ length (now entries)) ⌝ }
@@ -90,7 +90,7 @@ fn add_four(powers: &[u16], e: usize, f: usize, g: usize, h: usize, j: usize, en
     add_at(powers, h, j + 3, entries);
 }
 
-// To entry j, the power with exponent e.
+// Adds the power with exponent e to entry j.
 fn add_at(powers: &[u16], e: usize, j: usize, entries: &mut [u16])
     requires { ⌜ (e < length (now powers)) × (j < length (now entries)) ⌝ }
     ensures { λ _. ⌜ now (entries .exit) ≡ plusAt (now (entries .entry)) j (getD (now (powers .entry)) e 0) ⌝ }

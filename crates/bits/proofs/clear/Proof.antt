@@ -1,4 +1,4 @@
--- The loop keeps: zeros below i, as lent from there on.
+-- The loop keeps: the places below i hold 0, and those from i on are as lent.
 use native.Mathlib.Omega.{arith}
 use lib.ListN.{length, set, drop, replicate, length-set, drop-of-length-le}
 use mathlib.Core.Path.{_≡_, _∙_, ap}

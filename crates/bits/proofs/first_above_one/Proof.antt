@@ -1,4 +1,4 @@
--- The loop keeps: the first place above 1 is i places past the one of what is left.
+-- The loop keeps: the first place above 1 is i plus the first such place of the part that is left to look at.
 use mathlib.Core.Path.{_≡_, _∙_, sym}
 use mathlib.Core.List.{List}
 use Prim.Native.Nat.{ℕ, suc, _+_, _-_, _≤_, _<_}

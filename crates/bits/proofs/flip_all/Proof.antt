@@ -1,4 +1,4 @@
--- The loop keeps: the bits at the first i places are turned over, and what stands in dst are bits.
+-- The loop keeps: the bits at the first i places are turned over, and dst holds bits.
 use native.Mathlib.Omega.{arith}
 use lib.ListN.{length, getD, set, take}
 use mathlib.Core.Path.{_≡_, _∙_, sym, ap}

@@ -1,4 +1,4 @@
--- The front of the room is what was lent to be turned over.
+-- The front of the room holds a copy of the word, and this copy is lent to be turned over.
 use borrow.Author.Needs.{needs}
 use mathlib.Core.Path.{_≡_, _∙_, sym, ap, ap₂, subst}
 use mathlib.Core.List.{List, _++_}

@@ -1,4 +1,4 @@
--- The loop keeps: what is left of the rows gives the row.
+-- The loop keeps: the search among the rows that are left gives the row.
 use mathlib.Core.Path.{_≡_, _∙_, sym, ap}
 use mathlib.Core.List.{List}
 use Prim.Native.Nat.{ℕ, suc, _+_, _-_, _≤_, _<_}

@@ -1,4 +1,4 @@
--- Each turn passes a pair, and no more are listed than were passed.
+-- Each turn passes a pair, and at most as many codes are listed as pairs were passed.
 use Prim.Native.Nat.{_-_, _≤_}
 use borrow.Author.Needs.{needs}
 use Rattle.every_code.proofs.print_all.Statement.{statement}

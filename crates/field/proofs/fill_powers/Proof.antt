@@ -1,4 +1,4 @@
--- The loop keeps: x is a^i, and the places below i and those as far above n hold their powers.
+-- The loop keeps: x is a^i, and the places 0 to i - 1 and n to n + i - 1 hold their powers.
 use mathlib.Core.Path.{_≡_, _∙_, sym, ap, subst}
 use mathlib.Core.List.{List}
 use Prim.Native.Nat.{ℕ, _+_, _-_, _*_, _≤_, _<_}
@@ -39,7 +39,7 @@ module _ {m p n x i : ℕ} {first powers : List ℕ} (f : Filling m p n first po
   abbrev middle : List ℕ
   middle = set powers i x
 
-  -- and the same power once around further on
+  -- the same power is written n places further on
   abbrev last : List ℕ
   last = set middle (n + i) x
 
@@ -76,7 +76,7 @@ module _ {m p n x i : ℕ} {first powers : List ℕ} (f : Filling m p n first po
         again = filled-again;
       }
 
--- below n once, and from n on again
+-- the places below n and those from n to 2n - 1
 all-filled : {m p n x i : ℕ} {first powers : List ℕ} → Filling m p n first powers x i → n ≤ i → Powers m powers
 all-filled {m} {n = n} {powers = powers} f h = record { long = omega (arith, f .fits, f .is-n); holds = λ j k. pick j k (decLt j n) }
   where

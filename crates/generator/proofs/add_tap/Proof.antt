@@ -1,4 +1,4 @@
--- Added, or nothing to add.
+-- Either old is added, or there is nothing to add.
 use borrow.Author.Needs.{needs}
 use native.Mathlib.Omega.{arith}
 use lib.Seq.{length-take-le}
@@ -16,7 +16,7 @@ part g old e s = length-take-le (length g - e) old (omega arith)
 odd : (x : ℕ) → (x % 2 ≡ 0 → ⊥) → x % 2 ≡ 1
 odd x h = omega arith
 
--- past the two tests: what was lent, and how long the part of it is that is added
+-- past the two tests: what was lent, and the length of the part that is added
 abbrev lent : tie.Else2 → tie.Start
 lent c = c .before .before .before .before
 

@@ -1,4 +1,4 @@
--- The front of the room is what was lent to be filled.
+-- The front of the room is lent to be filled with the generator.
 use borrow.Author.Needs.{needs}
 use mathlib.Core.Path.{_≡_, _∙_, sym, ap, subst}
 use mathlib.Core.List.{List, _++_}

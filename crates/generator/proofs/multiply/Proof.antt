@@ -1,4 +1,4 @@
--- A copy of g is what the taps are taken from.
+-- The taps are taken from a copy of g.
 use borrow.Author.Needs.{needs}
 use mathlib.Core.Path.{_≡_, _∙_, sym, ap, subst}
 use mathlib.Core.List.{List}

@@ -1,4 +1,4 @@
--- What sigma was is kept beside it until it is mended.
+-- A copy of the old sigma is kept until sigma is mended.
 use mathlib.Core.Path.{_≡_, _∙_, sym}
 use native.Mathlib.Omega.{arith}
 use lib.ListN.{length}
@@ -8,7 +8,7 @@ use Rattle.key.proofs.MendLaws.{space-long}
 use Rattle.key.proofs.renew.Statement.{statement}
 use Rattle.key.proofs.renew.Tie as tie
 
--- the room for what sigma was: as long as it was made
+-- the room for the old sigma still has its length
 old-long : (c : tie.After-copy-first) → length (c .copy-first .last .1 .1 .0) ≡ 257
 old-long c = c .copy-first .ensures .same ∙ space-long (c .before .before .before .space .ensures)
 

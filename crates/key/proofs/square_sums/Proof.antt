@@ -1,4 +1,4 @@
--- The loop keeps: the sums before place 2i are there, each even one the square of the one half as far.
+-- The loop keeps: the sums before place 2i are there, and each S_2j among them is the square of S_j.
 use Prim.Native.Nat.{_-_}
 use native.Mathlib.Omega.{arith}
 use lib.ListN.{length-set}

@@ -1,4 +1,4 @@
--- There are as many frames as it counts.
+-- `count` is the number of frames.
 use native.Mathlib.Omega.{arith}
 use borrow.Author.Needs.{needs}
 use Rattle.lister.proofs.fill_lines.Statement.{statement}

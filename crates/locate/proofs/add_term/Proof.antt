@@ -1,4 +1,4 @@
--- By a^(n-j) from s on.
+-- The walk starts at s and multiplies by a^(n-j).
 use mathlib.Core.Path.{refl}
 use native.Mathlib.Omega.{arith}
 use Rattle.field.proofs.Range.{sizes}

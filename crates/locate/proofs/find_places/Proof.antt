@@ -1,4 +1,4 @@
--- Nothing is answered only where a located list would have been found, and what is found has the sums.
+-- What is found has the sums. Where nothing is found, there is no list with these sums, since the trial would have found it.
 use native.Mathlib.Omega.{arith}
 use borrow.Author.Needs.{needs}
 use Rattle.key.proofs.MendLaws.{space-long}

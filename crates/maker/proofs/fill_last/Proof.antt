@@ -1,4 +1,4 @@
--- Where nothing is held there is no last line, and else it ends here.
+-- If nothing is held, there is no last line; otherwise the last line ends here.
 use borrow.Author.Needs.{needs}
 use mathlib.Core.Path.{refl}
 use native.Mathlib.Omega.{arith}

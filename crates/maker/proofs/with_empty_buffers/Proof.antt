@@ -1,4 +1,4 @@
--- The lines stay, and what is held of the one that has begun.
+-- The number of lines stays, and so does what is held of the line that has begun.
 use mathlib.Core.Path.{refl}
 use Rattle.maker.proofs.with_empty_buffers.Statement.{statement}
 use Rattle.maker.proofs.with_empty_buffers.Tie as tie

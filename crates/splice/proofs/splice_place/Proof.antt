@@ -1,4 +1,4 @@
--- The place is written, and added to the sums, where it holds something else.
+-- Where the place holds another bit, it is written and added to the sums.
 use mathlib.Core.Path.{refl}
 use native.Mathlib.Omega.{arith}
 use Rattle.splice.proofs.SpliceLaws.{place-kept}

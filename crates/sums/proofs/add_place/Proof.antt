@@ -1,4 +1,4 @@
--- By 2p from p on.
+-- The exponents start at p and go up by 2p.
 use Prim.Native.Nat.{_*_}
 use native.Mathlib.Omega.{arith}
 use Rattle.field.proofs.Exponents.{around-below}

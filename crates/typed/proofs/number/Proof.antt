@@ -1,4 +1,4 @@
--- The two lengths are looked at first.
+-- The two bounds of the length are checked first.
 use borrow.Author.Needs.{needs}
 use native.Mathlib.Omega.{arith}
 use Rattle.typed.proofs.SpelledLaws.{number-of}

@@ -1,4 +1,4 @@
--- The sum is compared before it is made.
+-- The bound is checked before the sum is made.
 use borrow.Author.Needs.{needs}
 use Rattle.typed.proofs.with_digit.Statement.{statement}
 use Rattle.typed.proofs.with_digit.Tie as tie

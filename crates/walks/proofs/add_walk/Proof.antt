@@ -1,4 +1,4 @@
--- The loop keeps: the entries before j are done, as many left as go by fours, and e is the next exponent.
+-- The loop keeps: the entries before j are done, the number of those left is a multiple of 4, and e is the next exponent.
 use mathlib.Core.Path.{_≡_, _∙_}
 use mathlib.Core.List.{List}
 use Prim.Native.Nat.{ℕ, _-_, _*_, _%_, _≤_, _<_}
@@ -144,7 +144,7 @@ around-requires-5 c κs =
     let b = next-four at-loop in
     omega (arith, b .third, b .fourth, at-loop .loop .inv .strides .is-n)
 
--- as many are left as go by fours
+-- the number of entries that are left is a multiple of 4
 fours : (c : tie.In-loop Inv-loop μ-loop) → (entry (c .before) .args .count - c .before .loop .j) % 4 ≡ 0
 fours c = c .before .loop .inv .fours
 

@@ -1,4 +1,4 @@
--- A remainder is below what it is taken by.
+-- A remainder is below its divisor.
 use native.Mathlib.Nat.{mod-lt}
 use borrow.Author.Needs.{needs}
 use Rattle.every_code.proofs.made_up.below.Statement.{statement}

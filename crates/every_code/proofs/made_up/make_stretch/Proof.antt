@@ -1,4 +1,4 @@
--- The front that was filled is as long as it was.
+-- Filling the front of the room does not change its length.
 use native.Mathlib.Omega.{arith}
 use lib.ListN.{length-append, length-take}
 use borrow.Author.Needs.{needs}

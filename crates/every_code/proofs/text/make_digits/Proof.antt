@@ -1,4 +1,4 @@
--- Each turn passes a place, and as many are left as there were.
+-- Each turn passes a place, and the word stays as long as it was.
 use mathlib.Core.Path.{_≡_}
 use Prim.Native.Nat.{_-_, _≤_}
 use lib.ListN.{length}

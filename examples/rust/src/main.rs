@@ -1,0 +1,83 @@
+//! What a program does with Blentovar: it mends a word, reads a damaged frame, and says a refusal in words.
+
+use blentovar::{decode, encode, frame_of, read_frame, sizes, Reading, Refusal};
+use std::error::Error;
+use std::process::ExitCode;
+
+fn main() -> ExitCode {
+    match run() {
+        Ok(()) => ExitCode::SUCCESS,
+        Err(why) => {
+            eprintln!("mend: {why}");
+            ExitCode::FAILURE
+        }
+    }
+}
+
+fn run() -> Result<(), Box<dyn Error>> {
+    mend_a_word(4, 3)?;
+    read_a_damaged_frame()?;
+    be_refused()
+}
+
+fn mend_a_word(m: usize, t: usize) -> Result<(), Box<dyn Error>> {
+    let code = sizes(m, t)?;
+    let (n, k) = (code.n, code.k);
+    println!("m {m}, t {t}: {n} places, {k} of them for the message");
+    let mut sent = vec![0; n];
+    encode(m, t, &[1, 0, 1, 0, 1], &mut sent)?;
+    print_numbers("sent    ", &sent);
+
+    let mut received = sent.clone();
+    for place in [0, 9, 14] {
+        received[place] ^= 1;
+    }
+    print_numbers("received", &received);
+
+    let (mut mended, mut list) = (vec![0; n], vec![0; t]);
+    let wrong = decode(m, t, &received, &mut mended, &mut list)?;
+    print_numbers("mended  ", &mended);
+    print_numbers(&format!("{wrong} wrong places:"), &list[..wrong]);
+    if mended != sent {
+        return Err("the mended word is not the sent one".into());
+    }
+    println!("the mended word is the sent one");
+    Ok(())
+}
+
+fn print_numbers<T: ToString>(name: &str, numbers: &[T]) {
+    let texts: Vec<String> = numbers.iter().map(T::to_string).collect();
+    println!("{name} {}", texts.join(" "));
+}
+
+fn read_a_damaged_frame() -> Result<(), Box<dyn Error>> {
+    let mut frame = frame_of(Reading {
+        house: 12,
+        poll: 1,
+        counter: 34_567,
+    });
+    // The bits with the sent numbers 25 and 26.
+    frame[3] ^= 0x60;
+    let received = read_frame(&frame)?;
+    let Reading {
+        house,
+        poll,
+        counter,
+    } = received.reading;
+    let wrong = received.wrong;
+    println!("house {house}, poll {poll}, counter {counter}, {wrong} wrong places");
+    Ok(())
+}
+
+fn be_refused() -> Result<(), Box<dyn Error>> {
+    let received = [1, 1, 1, 1, 0, 0, 0, 0, 0, 0, 0, 0, 0, 0, 0];
+    let (mut word, mut list) = ([0; 15], [0; 3]);
+    match decode(4, 3, &received, &mut word, &mut list) {
+        Err(refusal @ Refusal::NothingNear) => {
+            println!("refused {}: {refusal}", refusal.number());
+            Ok(())
+        }
+        Err(other) => Err(other.into()),
+        Ok(_) => Err("a word far from every code word was mended".into()),
+    }
+}
