@@ -10,6 +10,11 @@ static_assert(offsetof(blentovar_sizes_answer, zero_after_number) == 4, "zero_af
 static_assert(offsetof(blentovar_sizes_answer, n) == 8, "n");
 static_assert(offsetof(blentovar_sizes_answer, k) == 16, "k");
 static_assert(sizeof(blentovar_sizes_answer) == 24, "sizes_answer");
+
+static_assert(offsetof(blentovar_describe_answer, number) == 0, "number");
+static_assert(offsetof(blentovar_describe_answer, zero_after_number) == 4, "zero_after_number");
+static_assert(offsetof(blentovar_describe_answer, n) == 8, "n");
+static_assert(offsetof(blentovar_describe_answer, k) == 16, "k");
 static_assert(sizeof(blentovar_describe_answer) == 24, "describe_answer");
 
 static_assert(offsetof(blentovar_decode_answer, number) == 0, "number");

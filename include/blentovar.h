@@ -74,7 +74,6 @@ enum {
     BLENTOVAR_FRAME_BYTES = 32
 };
 
-/* The sizes of a code: the places of a word, and those of a message. */
 typedef struct blentovar_sizes_answer {
     uint32_t number;
     uint32_t zero_after_number;
@@ -82,8 +81,12 @@ typedef struct blentovar_sizes_answer {
     size_t k;
 } blentovar_sizes_answer;
 
-/* Describe answers the same. */
-typedef blentovar_sizes_answer blentovar_describe_answer;
+typedef struct blentovar_describe_answer {
+    uint32_t number;
+    uint32_t zero_after_number;
+    size_t n;
+    size_t k;
+} blentovar_describe_answer;
 
 typedef struct blentovar_decode_answer {
     uint32_t number;
