@@ -11,10 +11,12 @@ use Rattle.algebra.specs.Series.{Series, ZeroFrom, EqualBelow, Distinct,
 use Rattle.algebra.specs.Key.{State, run, powerSums}
 use Rattle.algebra.proofs.Ring.{ring, sum-zero, product-zero, sum-of-equal}
 use Rattle.algebra.proofs.Series.{series, monomial, monomial-product}
-use Rattle.algebra.proofs.Degree.{zero-from-weaken, zero-from-product, below-refl, below-weaken, below-product, product-below, equal-of-below, product-vanishes, monomial-below, monomial-from}
+use Rattle.algebra.proofs.Degree.{zero-from-weaken, zero-from-product, below-refl, below-weaken, below-product, product-below}
+use Rattle.algebra.proofs.Degree.{equal-of-below, product-vanishes, monomial-below, monomial-from}
 use Rattle.algebra.proofs.Evaluate.{evaluate-sum, evaluate-past, evaluate-product, evaluate-monomial}
 use Rattle.algebra.proofs.Field.{no-zero-divisor, inverse-not-zero, power-not-zero}
-use Rattle.algebra.proofs.Locators.{locator, evaluator, locator-from, evaluator-from, locator-one, locator-sums, locator-root, locator-rooted, evaluator-not-zero}
+use Rattle.algebra.proofs.Locators.{locator, evaluator, locator-from, evaluator-from, locator-one, locator-sums}
+use Rattle.algebra.proofs.Locators.{locator-root, locator-rooted, evaluator-not-zero}
 use Rattle.algebra.proofs.Run.{Linked, Kept, run-keeps}
 
 -- the identities below, over plain variables
@@ -56,7 +58,8 @@ module _ (F : Field) where
   NonZero E = (X : El) → List·Memᴰ X E → X ≢ 𝟘
 
 -- a state that the run keeps at r, where S agrees with the power sums of E below r
-module _ (F : Field) (S : Series (F .ring)) (E : List (F .ring .El)) (r : ℕ) (agree : EqualBelow (F .ring) r S (powerSums F E)) (s : State F) (kept : Kept F S r s) where
+module _ (F : Field) (S : Series (F .ring)) (E : List (F .ring .El)) (r : ℕ) (agree : EqualBelow (F .ring) r S (powerSums F E))
+    (s : State F) (kept : Kept F S r s) where
   open Field F using (ring as K, inverse, one-not-zero)
   open Ring K using (El, 𝟘, 𝟙, _⊕_, _⊗_)
   open Ring (series K) using (_⊕_ as _⊕ˢ_, _⊗_ as _⊗ˢ_)
@@ -88,7 +91,9 @@ module _ (F : Field) (S : Series (F .ring)) (E : List (F .ring .El)) (r : ℕ) (
 
   -- L is at most the length of E; otherwise x^r Λ would be B times a series that vanishes below r
   not-longer : length E < s .L → 𝟙 ≡ 𝟘
-  not-longer l = sym (locator-one K E) ∙ sym (monomial-product K r Λ) ∙ ap (λ p. p r) split ∙ product-vanishes K r (s .B) (Ω ⊗ˢ s .σ ⊕ˢ ω ⊗ˢ Λ) (kept .B-zero) (λ n h. sum-of-equal K _ _ (σ-crossed n h))
+  not-longer l =
+      sym (locator-one K E) ∙ sym (monomial-product K r Λ) ∙ ap (λ p. p r) split
+      ∙ product-vanishes K r (s .B) (Ω ⊗ˢ s .σ ⊕ˢ ω ⊗ˢ Λ) (kept .B-zero) (λ n h. sum-of-equal K _ _ (σ-crossed n h))
     where
       split : monomial K r ⊗ˢ Λ ≡ s .B ⊗ˢ (Ω ⊗ˢ s .σ ⊕ˢ ω ⊗ˢ Λ)
       split =
@@ -174,7 +179,8 @@ module _ (F : Field) where
   finds S E N u n l e = finds-here F S E N e (run F S N) (run-keeps F S N) l u n
 
   -- two lists of at most N / 2 elements with the same first N power sums have the same elements
-  pub same-set : (E E′ : List El) (N : ℕ) → Distinct K E → Distinct K E′ → NonZero F E → NonZero F E′ → 2 * length E ≤ N → 2 * length E′ ≤ N → EqualBelow K N (powerSums F E) (powerSums F E′) → (X : El) → List·Memᴰ X E → List·Memᴰ X E′
+  pub same-set : (E E′ : List El) (N : ℕ) → Distinct K E → Distinct K E′ → NonZero F E → NonZero F E′
+      → 2 * length E ≤ N → 2 * length E′ ≤ N → EqualBelow K N (powerSums F E) (powerSums F E′) → (X : El) → List·Memᴰ X E → List·Memᴰ X E′
   same-set E E′ N u u′ n n′ l l′ e X m =
       finds (powerSums F E) E′ N u′ n′ l′ e .root X (n X m) (suc (length E + length E′)) (omega arith)
       (finds (powerSums F E) E N u n l (below-refl K N (powerSums F E)) .rooted X m (suc (length E + length E′)) (omega arith))

@@ -9,7 +9,9 @@ use Rattle.algebra.specs.Ring.{Ring, Field}
 use Rattle.algebra.specs.Series.{Series, shift, scale, zeroSeries, oneSeries, ZeroFrom, EqualBelow}
 use Rattle.algebra.specs.Key.{State, start, discrepancy, passed, mended, corrected, stepBy, step, run}
 use Rattle.algebra.proofs.Ring.{ring, sum-self, one-product, over-product}
-use Rattle.algebra.proofs.Series.{series, one-zero, shift-zero, shift-product, scale-product, shift-sum, indeterminate, constant, shift-is-product, scale-is-product, constants-multiply, constant-one, monomial, monomial-zero, monomial-suc, monomial-at}
+use Rattle.algebra.proofs.Series.{series, one-zero, shift-zero, shift-product, scale-product, shift-sum, indeterminate, constant}
+use Rattle.algebra.proofs.Series.{shift-is-product, scale-is-product, constants-multiply, constant-one}
+use Rattle.algebra.proofs.Series.{monomial, monomial-zero, monomial-suc, monomial-at}
 use Rattle.algebra.proofs.Degree
 use Rattle.algebra.proofs.Field.{inverse-product}
 
@@ -52,7 +54,16 @@ module _ (K : Ring) where
 
   renewed-makes : (d i : El) (s w b g : Series K) → i ⊗ d ≡ 𝟙 → (s ⊕ˢ scale K d b) ⊗ˢ scale K i w ⊕ˢ scale K i s ⊗ˢ (w ⊕ˢ scale K d g) ≡ s ⊗ˢ g ⊕ˢ b ⊗ˢ w
   renewed-makes d i s w b g u =
-      rw (scale-is-product K d b, scale-is-product K d g, scale-is-product K i s, scale-is-product K i w, renewed-pair (series K) s w b g (constant K d) (constant K i), constants-multiply K i d, u, constant-one K)
+      rw (
+        scale-is-product K d b,
+        scale-is-product K d g,
+        scale-is-product K i s,
+        scale-is-product K i w,
+        renewed-pair (series K) s w b g (constant K d) (constant K i),
+        constants-multiply K i d,
+        u,
+        constant-one K,
+      )
       (one-product (series K) _)
 
   shifted-makes : (s w b g : Series K) → s ⊗ˢ shift K g ⊕ˢ shift K b ⊗ˢ w ≡ shift K (s ⊗ˢ g ⊕ˢ b ⊗ˢ w)
@@ -75,7 +86,8 @@ module _ (K : Ring) (S : Series K) where
       here : (s ⊗ˢ S) r ≡ w r ⊕ (s ⊗ˢ S) r ⊗ monomial K r r
       here = rw (z, monomial-at K r) (simp (ring, K))
 
-  mends : (k : ℕ) (d : El) (s w b g m : Series K) → EqualBelow K k (s ⊗ˢ S) (w ⊕ˢ scale K d m) → EqualBelow K k (b ⊗ˢ S) (g ⊕ˢ m) → EqualBelow K k ((s ⊕ˢ scale K d b) ⊗ˢ S) (w ⊕ˢ scale K d g)
+  mends : (k : ℕ) (d : El) (s w b g m : Series K) → EqualBelow K k (s ⊗ˢ S) (w ⊕ˢ scale K d m) → EqualBelow K k (b ⊗ˢ S) (g ⊕ˢ m)
+      → EqualBelow K k ((s ⊕ˢ scale K d b) ⊗ˢ S) (w ⊕ˢ scale K d g)
   mends k d s w b g m e f n h =
       ap (λ p. p n) (over-product (series K) s (scale K d b) S ∙ ap (_⊕ˢ_ (s ⊗ˢ S)) (scale-product K d b S))
       ∙ ap₂ (λ x y. x ⊕ d ⊗ y) (e n h) (f n h)
@@ -89,7 +101,8 @@ module _ (K : Ring) (S : Series K) where
       ∙ ap (λ x. i ⊗ w n ⊕ x ⊗ m n) u
       ∙ ap (_⊕_ (i ⊗ w n)) (one-product K (m n))
 
-  shifts : (r : ℕ) (b g : Series K) → EqualBelow K (suc r) (b ⊗ˢ S) (g ⊕ˢ monomial K r) → EqualBelow K (suc (suc r)) (shift K b ⊗ˢ S) (shift K g ⊕ˢ monomial K (suc r))
+  shifts : (r : ℕ) (b g : Series K) → EqualBelow K (suc r) (b ⊗ˢ S) (g ⊕ˢ monomial K r)
+      → EqualBelow K (suc (suc r)) (shift K b ⊗ˢ S) (shift K g ⊕ˢ monomial K (suc r))
   shifts r b g e =
       rw (shift-product K b S, monomial-suc K r, ← shift-sum K g (monomial K r)) (Degree.below-shift K (suc r) (b ⊗ˢ S) (g ⊕ˢ monomial K r) e)
 
