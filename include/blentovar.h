@@ -33,8 +33,8 @@ extern "C" {
 /* The version of this header and of the library that goes with it, and the
  * same as one number: 10,000 times the first part, 100 times the second, and
  * the third. */
-#define BLENTOVAR_VERSION "0.2.0"
-#define BLENTOVAR_VERSION_NUMBER 200
+#define BLENTOVAR_VERSION "0.3.0"
+#define BLENTOVAR_VERSION_NUMBER 300
 
 /* The sheet. */
 enum {
@@ -54,8 +54,7 @@ enum {
     /* in a kept record one of the first n bits is above 1 or one of the first
      * t sums is 2^m or more */
     BLENTOVAR_RECORD_CONTENTS = 7,
-    /* the mended word fails a second check of its sums; proved never to come */
-    BLENTOVAR_SECOND_CHECK = 8,
+    /* 8 is struck: it is never answered, and no later refusal gets it */
     /* a frame is not 32 bytes */
     BLENTOVAR_FRAME_LENGTH = 9,
     /* a frame's last bit is 1 */
@@ -145,7 +144,7 @@ uint32_t blentovar_encode(size_t m, size_t t,
 /* The code word within t of what was received.
  * received: n places, read. word: n places, written. list: t places, written;
  * the wrong places ascending, then zeros.
- * Checks: 1, 2, 3, 4 (word, then list), 5, 6, 8.
+ * Checks: 1, 2, 3, 4 (word, then list), 5, 6.
  * Answers the number and how many places were wrong, which tells how much of
  * list are places; refused, wrong is 0 and word and list are as lent. */
 blentovar_decode_answer blentovar_decode(size_t m, size_t t,

@@ -7,10 +7,11 @@
 #include "blentovar.h"
 
 /* Functions and structs may change with the second part of the version. */
-#if BLENTOVAR_VERSION_NUMBER < 200 || BLENTOVAR_VERSION_NUMBER >= 300
-#error "this program was written for Blentovar 0.2"
+#if BLENTOVAR_VERSION_NUMBER < 300 || BLENTOVAR_VERSION_NUMBER >= 400
+#error "this program was written for Blentovar 0.3"
 #endif
 
+/* What each number says. 8 is struck, so nothing stands there. */
 static const char *const sheet[] = {
     [BLENTOVAR_DONE] = "done",
     [BLENTOVAR_FIELD_SIZE] = "m is not 3 to 10",
@@ -22,12 +23,16 @@ static const char *const sheet[] = {
                                "no set of at most t places with the kept sums (Decode kept)",
     [BLENTOVAR_RECORD_CONTENTS] = "in a kept record one of the first n bits is above 1 "
                                   "or one of the first t sums is 2^m or more",
-    [BLENTOVAR_SECOND_CHECK] = "the mended word fails a second check of its sums (Decode only; it never comes)",
     [BLENTOVAR_FRAME_LENGTH] = "a frame, or the buffer for one, is not 32 bytes",
     [BLENTOVAR_PAD_BIT] = "a frame's last bit is 1",
     [BLENTOVAR_LEAD_BITS] = "a decoded frame's lead bits are wrong",
     [BLENTOVAR_STRETCH_END] = "a stretch runs past the end: k for Edit, n for Splice",
 };
+
+static const char *condition(uint32_t number) {
+    const char *stands = number < sizeof sheet / sizeof *sheet ? sheet[number] : NULL;
+    return stands ? stands : "a number that the sheet does not have";
+}
 
 static void stop(const char *why) {
     fprintf(stderr, "mend: %s\n", why);
@@ -37,7 +42,7 @@ static void stop(const char *why) {
 /* Stops the program unless a call answered the number that is due. */
 static void expect(uint32_t due, uint32_t number) {
     if (number != due)
-        stop(number < sizeof sheet / sizeof *sheet ? sheet[number] : "a number that the sheet does not have");
+        stop(condition(number));
 }
 
 static void print_bits(const char *name, const uint8_t *bits, size_t places) {
@@ -94,7 +99,7 @@ static void be_refused(void) {
     uint16_t list[3];
     uint32_t number = blentovar_decode(4, 3, received, 15, word, 15, list, 3).number;
     expect(BLENTOVAR_NOTHING_NEAR, number);
-    printf("refused %" PRIu32 ": %s\n", number, sheet[number]);
+    printf("refused %" PRIu32 ": %s\n", number, condition(number));
 }
 
 int main(void) {

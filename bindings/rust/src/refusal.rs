@@ -21,8 +21,7 @@ pub enum Refusal {
     NothingNear = 6,
     /// 7: in a kept record one of the first n bits is above 1 or one of the first t sums is 2^m or more.
     RecordContents = 7,
-    /// 8: the mended word fails a second check of its sums (Decode only; it never comes).
-    SecondCheck = 8,
+    // 8 is struck, and no refusal gets it again.
     /// 9: a frame, or the buffer for one, is not 32 bytes.
     FrameLength = 9,
     /// 10: a frame's last bit is 1.
@@ -35,7 +34,7 @@ pub enum Refusal {
 
 use Refusal::*;
 
-const SHEET: [Refusal; 12] = [
+const SHEET: [Refusal; 11] = [
     FieldSize,
     NotListed,
     InputLength,
@@ -43,7 +42,6 @@ const SHEET: [Refusal; 12] = [
     BitAboveOne,
     NothingNear,
     RecordContents,
-    SecondCheck,
     FrameLength,
     PadBit,
     LeadBits,
@@ -51,7 +49,7 @@ const SHEET: [Refusal; 12] = [
 ];
 
 impl Refusal {
-    /// The sheet's number, 1 to 12.
+    /// The sheet's number, 1 to 12. 8 is struck, so no refusal has it.
     ///
     /// ```
     /// assert_eq!(blentovar::Refusal::StretchEnd.number(), 12);
@@ -84,9 +82,6 @@ impl fmt::Display for Refusal {
             RecordContents => {
                 "in a kept record one of the first n bits is above 1 or one of the first t sums is 2^m or more"
             }
-            SecondCheck => {
-                "the mended word fails a second check of its sums (Decode only; it never comes)"
-            }
             FrameLength => "a frame, or the buffer for one, is not 32 bytes",
             PadBit => "a frame's last bit is 1",
             LeadBits => "a decoded frame's lead bits are wrong",
@@ -96,3 +91,14 @@ impl fmt::Display for Refusal {
 }
 
 impl Error for Refusal {}
+
+#[cfg(test)]
+mod tests {
+    use super::Refusal;
+
+    #[test]
+    #[should_panic(expected = "a number of the sheet")]
+    fn the_struck_number_is_no_refusal() {
+        let _ = Refusal::check(8);
+    }
+}

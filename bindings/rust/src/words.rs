@@ -61,7 +61,7 @@ pub fn encode(m: usize, t: usize, message: &[u8], word: &mut [u8]) -> Result<(),
     Refusal::check(library::encode(m, t, message, word))
 }
 
-/// Puts the code word within t of n received bits into a buffer of n places, the wrong places ascending and then zeros into a list of t places, and gives how many were wrong. Checks: 1, 2, 3, 4 (word, then list), 5, 6, 8.
+/// Puts the code word within t of n received bits into a buffer of n places, the wrong places ascending and then zeros into a list of t places, and gives how many were wrong. Checks: 1, 2, 3, 4 (word, then list), 5, 6.
 ///
 /// ```
 /// let (mut word, mut list) = ([0; 7], [0; 1]);

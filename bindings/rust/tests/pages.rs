@@ -1,9 +1,9 @@
-//! What the repository's pages say of the codes, the refusals and the version, compared with the crate.
+//! What the repository's pages say of the codes, the refusals, the struck number and the version, compared with the crate.
 
-use blentovar::{describe, sizes, Refusal};
+use blentovar::{decode, describe, encode, sizes, Kept, Refusal};
 use std::collections::BTreeMap;
 
-const SHEET: [Refusal; 12] = [
+const SHEET: [Refusal; 11] = [
     Refusal::FieldSize,
     Refusal::NotListed,
     Refusal::InputLength,
@@ -11,7 +11,6 @@ const SHEET: [Refusal; 12] = [
     Refusal::BitAboveOne,
     Refusal::NothingNear,
     Refusal::RecordContents,
-    Refusal::SecondCheck,
     Refusal::FrameLength,
     Refusal::PadBit,
     Refusal::LeadBits,
@@ -25,6 +24,20 @@ fn numbers_texts_and_names_are_those_of_the_sheet() {
         let line = format!("| {} | {refusal} | `{refusal:?}` |", refusal.number());
         assert!(page.lines().any(|other| other == line), "{line}");
     }
+}
+
+#[test]
+fn the_struck_number_stands_nowhere() {
+    let page = include_str!("../../../docs/REFUSALS.md");
+    let rows: Vec<&str> = page
+        .lines()
+        .filter(|line| line.starts_with("| 8 |"))
+        .collect();
+    let struck = "| 8 | struck: no operation gives it, and no later refusal gets it | |";
+    assert_eq!(rows, [struck]);
+    let header = include_str!("../../../include/blentovar.h");
+    let mut numbers = header.lines().map(|line| line.trim_end_matches(','));
+    assert!(numbers.all(|line| !line.ends_with("= 8")));
 }
 
 /// n and k of every row of docs/CODES.md by m, which stands in the heading above it, and t.
@@ -62,6 +75,24 @@ fn describe_gives_what_sizes_gives() {
         let code = sizes(m, t).expect("the code is listed");
         let mut generator = vec![0; code.n - code.k + 1];
         assert_eq!(describe(m, t, &mut generator), Ok(code), "m {m}, t {t}");
+    }
+}
+
+/// What docs/REFUSALS.md says of the check for which 8 stood, of a word with t wrong places for every code.
+#[test]
+fn a_mended_word_opened_has_sums_of_0() {
+    for ((m, t), (n, k)) in codes_of_the_page() {
+        let message: Vec<u8> = (0..k).map(|place| u8::from(place % 3 == 0)).collect();
+        let mut received = vec![0; n];
+        encode(m, t, &message, &mut received).expect("the message is taken");
+        for number in 0..t {
+            received[number * n / t] ^= 1;
+        }
+        let (mut word, mut list) = (vec![0; n], vec![0; t]);
+        let wrong = decode(m, t, &received, &mut word, &mut list);
+        assert_eq!(wrong, Ok(t), "m {m}, t {t}");
+        let record = Kept::open(m, t, &word).expect("a code word is taken");
+        assert!(record.sums.iter().all(|sum| *sum == 0), "m {m}, t {t}");
     }
 }
 

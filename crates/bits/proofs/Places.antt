@@ -5,7 +5,7 @@ use mathlib.Core.List.{List, [], _∷_, map, List·Memᴰ, List·Memᴰ·head, L
 use Prim.Native.Nat.{ℕ, zero, suc, _<_}
 use native.Mathlib.Decide.{ℕ-discrete}
 use native.Mathlib.Omega.{arith}
-use lib.ListN.{length, getD, take}
+use lib.ListN.{length, getD}
 use Rattle.bits.specs.Differences.{Ascending}
 
 pub member? : (p : ℕ) (ps : List ℕ) → Dec (List·Memᴰ p ps)
@@ -27,14 +27,6 @@ pub member-at : (ps : List ℕ) (i : ℕ) → i < length ps → List·Memᴰ (ge
 member-at [] i h = absurd (omega arith)
 member-at (p ∷ ps) zero h = List·Memᴰ·head refl
 member-at (p ∷ ps) (suc i) h = List·Memᴰ·tail (member-at ps i (omega arith))
-
--- a member of the first so many is a member
-
-pub member-take : {p : ℕ} (k : ℕ) (ps : List ℕ) → List·Memᴰ p (take k ps) → List·Memᴰ p ps
-member-take zero ps h = absurd (List·Memᴰ·not-nil h)
-member-take (suc k) [] h = h
-member-take (suc k) (q ∷ ps) (List·Memᴰ·head e) = List·Memᴰ·head e
-member-take (suc k) (q ∷ ps) (List·Memᴰ·tail h) = List·Memᴰ·tail (member-take k ps h)
 
 -- the places one further on
 

@@ -76,19 +76,6 @@ pub fn word_space() -> [u8; 1024]
     [0; 1024]
 }
 
-// The word with these places turned over, at the front of room for any word.
-pub fn turned_over(word: &[u8], places: &[u16]) -> [u8; 1024]
-    requires { ⌜ AreBits (now word) × (length (now word) ≤ 1024) × ((p : ℕ) → List·Memᴰ p (now places) → p < length (now word)) ⌝ }
-    ensures { λ r. ⌜ (1024 ≡ length r) × (take (length (now (word .entry))) r ≡ flipped (now (word .entry)) (now (places .entry))) ⌝ }
-{
-    let n = word.len();
-    let count = places.len();
-    let mut space = word_space();
-    copy_at(&mut space, 0, word);
-    flip_all(&mut space[..n], places, count);
-    space
-}
-
 // Whether a stretch of `long` places from `start` on runs past the end. `start` and `long` are not added, since the sum could wrap.
 pub fn runs_past(start: usize, long: usize, end: usize) -> bool
     ensures { λ r. ⌜ r ≡ runsPast start long end ⌝ }

@@ -35,14 +35,19 @@ module _ {m t : ℕ} (L : IsField m) {received sums : List ℕ} (B : AreBits rec
           ∙ sym (sum-differences L (2 * i + 1) received c B (C .bits) (long ∙ sym (C .long)))
           ∙ C .sums (2 * i + 1) (omega arith) (omega arith)
 
+  -- A mended word always passes a second check of its sums: the places turned over have the sums of what came in, so each sum is added to itself.
+  pub mended-passes : (ps : List ℕ) → Located m t sums ps → (i : ℕ) → i < t → sumOf m (2 * i + 1) (flipped received ps) ≡ 0
+  mended-passes ps E i k =
+      sum-flipped L (2 * i + 1) received ps B (λ p h. omega (arith, E .below p h, long))
+      ∙ ap₂ (λ (x y : ℕ). x ⊕ y) (sym (S i k)) (E .same i k) ∙ sum-self (getD sums i 0)
+
   pub located-word : (ps : List ℕ) → Located m t sums ps → CodeWord m t (flipped received ps)
   located-word ps E =
-      record { long = length-flipped received ps ∙ long; bits = bits-flipped ps B; sums = odd-sums L (flipped received ps) (bits-flipped ps B) t vanishes }
-    where
-      vanishes : (i : ℕ) → i < t → sumOf m (2 * i + 1) (flipped received ps) ≡ 0
-      vanishes i k =
-          sum-flipped L (2 * i + 1) received ps B (λ p h. omega (arith, E .below p h, long))
-          ∙ ap₂ (λ (x y : ℕ). x ⊕ y) (sym (S i k)) (E .same i k) ∙ sum-self (getD sums i 0)
+      record {
+        long = length-flipped received ps ∙ long;
+        bits = bits-flipped ps B;
+        sums = odd-sums L (flipped received ps) (bits-flipped ps B) t (mended-passes ps E);
+      }
 
   pub nothing-near : ((ps : List ℕ) → Located m t sums ps → ⊥) → Far m t t received
   nothing-near n c C h = n (differences received c) (near-located c C h)

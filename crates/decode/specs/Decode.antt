@@ -1,6 +1,6 @@
 -- Decode. docs/SCOPE.md 4.5: "Takes m, t, n received bits, a buffer of n places for the mended word and a buffer of t 16-bit places for the list.
 -- Gives the number of wrong places; the list holds them ascending, then zeros. The mended word is the code word within t of what was received."
--- 5.2: its checks are 1, 2, 3, 4, 5, 6, 8; 8 never comes, and the promise leaves no room for it.
+-- 5.2: its checks are 1, 2, 3, 4, 5, 6.
 use mathlib.Core.Path.{_≡_}
 use mathlib.Core.Bool.{not}
 use mathlib.Core.List.{List, [], _∷_, _++_}

@@ -1,12 +1,11 @@
 // Decode: the code word within t of what came in.
 
 ghost use mathlib.Core.Path.{_≡_};
-ghost use mathlib.Core.Bool.{true};
+ghost use lib.ListN.{take};
 ghost use Rattle.sheet.specs.declared.Outcome.the-variants.{Refused};
-ghost use Rattle.codes.specs.Work.{Checked, Known};
-ghost use Rattle.codes.specs.Sums.{CodeWord};
+ghost use Rattle.codes.specs.Work.{Checked};
 ghost use Rattle.decode.specs.Decode.{Decodes, MendsWithin, decodeChecks, leftBy};
-ghost use Rattle.decode.specs.Work.{DecodeReady, WrongPlaces, FirstAreWrong, CanPut, PutDown};
+ghost use Rattle.decode.specs.Work.{DecodeReady, CanPut, PutDown};
 use codes::Code;
 use codes::Look;
 use locate::Found;
@@ -72,68 +71,27 @@ fn mend_received(code: Code, received: &[u8], word: &mut [u8], list: &mut [u16])
     let answer = search.answer;
     let places = search.places;
     match answer {
-        Found::Places(count) => put_first(code, &places, count, received, word, list),
+        Found::Places(count) => put_down(received, &places, count, word, list),
         Found::Nothing => refused(Refusal::NothingNear),
     }
 }
 
-// Mends the received word at the first `count` of the places.
-fn put_first(
-    code: Code,
+// Writes the bits with the first `count` of the places turned over, and these places as the list.
+pub fn put_down(
+    bits: &[u8],
     places: &[u16],
     count: usize,
-    received: &[u8],
     word: &mut [u8],
     list: &mut [u16],
 ) -> Decoded
-    requires { ⌜ FirstAreWrong code (now received) (now places) count (now word) (now list) ⌝ }
-    ensures { λ r. ⌜ MendsWithin code (code .t) (now (received .entry)) (now (word .entry)) (now (list .entry)) (r .outcome)
-        (leftBy r (now (word .exit)) (now (list .exit))) ⌝ }
+    requires { ⌜ CanPut (now bits) (now places) count (now word) (now list) ⌝ }
+    ensures { λ r. ⌜ PutDown (now (bits .entry)) (take count (now (places .entry))) (now (list .entry)) r (now (word .exit)) (now (list .exit)) ⌝ }
 {
-    put(code, &places[..count], received, word, list)
-}
-
-// Writes the received word with these places turned over, and the list.
-fn put(code: Code, places: &[u16], received: &[u8], word: &mut [u8], list: &mut [u16]) -> Decoded
-    requires { ⌜ DecodeReady code (now received) (now word) (now list) × WrongPlaces code (now received) (now places) ⌝ }
-    ensures { λ r. ⌜ MendsWithin code (code .t) (now (received .entry)) (now (word .entry)) (now (list .entry)) (r .outcome)
-        (leftBy r (now (word .exit)) (now (list .exit))) ⌝ }
-{
-    let n = received.len();
-    let mended = bits::turned_over(received, places);
-    put_checked(code, &mended[..n], places, word, list)
-}
-
-// The second check of the mended word's sums, which never refuses, and then both buffers are written.
-fn put_checked(
-    code: Code,
-    mended: &[u8],
-    places: &[u16],
-    word: &mut [u8],
-    list: &mut [u16],
-) -> Decoded
-    requires { ⌜ CanPut code (now mended) (now places) (now word) (now list) ⌝ }
-    ensures { λ r. ⌜ PutDown (now (mended .entry)) (now (places .entry)) (now (list .entry)) r (now (word .exit)) (now (list .exit)) ⌝ }
-{
-    let passes = passes_again(code, mended, places.len());
-    if !passes {
-        return refused(Refusal::SecondCheck);
-    }
-    bits::copy_at(word, 0, mended);
-    entries::put_list(places, list);
+    bits::copy_at(word, 0, bits);
+    bits::flip_all(word, places, count);
+    entries::put_list(&places[..count], list);
     Decoded {
         outcome: Outcome::Done,
-        wrong: places.len(),
+        wrong: count,
     }
-}
-
-// Where nothing was wrong the sums that the search was given are the word's own, and are not worked out again.
-fn passes_again(code: Code, mended: &[u8], wrong: usize) -> bool
-    requires { ⌜ Known code × CodeWord (code .m) (code .t) (now mended) ⌝ }
-    ensures { λ r. ⌜ r ≡ true ⌝ }
-{
-    if wrong == 0 {
-        return true;
-    }
-    locate::vanish(code.m, code.t, mended)
 }

@@ -2,16 +2,16 @@
 use mathlib.Core.Path.{_≡_, _∙_, sym, ap}
 use mathlib.Core.List.{List, _++_}
 use Prim.Native.Nat.{ℕ, _-_}
-use native.Mathlib.Omega.{arith}
 use lib.ListN.{length, take, replicate}
-use lib.Seq.{paste, length-take-le}
 use Rattle.sheet.specs.declared.Outcome.the-variants.{Done}
-use Rattle.sheet.specs.Verdict.{verdict}
+use Rattle.sheet.specs.Verdict.{verdict, Always}
 use Rattle.sheet.proofs.VerdictLaws.{all-pass, same-of}
-use Rattle.bits.specs.Bits.{flipped}
-use Rattle.bits.proofs.Turns.{copied-whole}
 use Rattle.codes.specs.declared.Code.{Code}
 use Rattle.codes.specs.Work.{Known}
+use Rattle.decode.specs.declared.Decoded.{Decoded}
+use Rattle.decode.specs.Decode.{leftBy}
+use Rattle.decode.specs.Work.{CanPut, PutDown}
+use Rattle.decode.proofs.DecodeSteps.{can-put}
 use Rattle.kept.specs.declared.Kept.{Kept}
 use Rattle.kept.proofs.RecordLaws.{sound}
 use Rattle.decode_kept.specs.DecodeKept.{MendsKept, decodeKeptChecks}
@@ -28,23 +28,25 @@ decode-kept-ready {c} stored word list K e =
       list-long = same-of (length list) (c .t) places;
     }
 
--- the stored bits, copied over a buffer of n places
-pub stored-copied : {c : Code} {stored : Kept} {word list copy : List ℕ} → KeptReady c stored word list → length (stored .bits) ≡ 1023
-    → length copy ≡ length word → copy ≡ paste word 0 (take (c .n) (stored .bits)) (length (take (c .n) (stored .bits))) → copy ≡ take (c .n) (stored .bits)
-stored-copied {c} {stored} {word} {list} {copy} R l k e =
-    let long = length-take-le (c .n) (stored .bits) (omega (arith, l, R .known .small)) in
-    copied-whole word (take (c .n) (stored .bits)) copy (R .word-long ∙ sym long) k e
+-- the places can be turned over in the stored bits
+pub stored-can-put : {c : Code} {stored : Kept} {count : ℕ} {places word list : List ℕ} → CanPutStored c stored places count word list
+    → length (take (c .n) (stored .bits)) ≡ c .n → CanPut (take (c .n) (stored .bits)) places count word list
+stored-can-put P long =
+    let R = P .ready in
+    can-put (R .sound .bits) (long ∙ R .known .is-n) (R .word-long ∙ sym long) (R .list-long) (P .within) (P .located)
 
--- the places turned over in them, and the list
-pub stored-mended : {c : Code} {stored : Kept} (count : ℕ) (places : List ℕ) {word list copy word′ list′ : List ℕ}
-    → CanPutStored c stored places count word list → copy ≡ take (c .n) (stored .bits) → word′ ≡ flipped copy (take count places)
-    → list′ ≡ take count places ++ replicate (length list - length (take count places)) 0
-    → MendsKept c stored (record { wrong = count; word = word′; list = list′ })
-stored-mended count places P e w l =
+-- what was put down is what Decode kept promises
+pub stored-mended : {c : Code} {stored : Kept} {count : ℕ} {places lentWord lentList word list : List ℕ} {answer : Decoded}
+    → CanPutStored c stored places count lentWord lentList → PutDown (take (c .n) (stored .bits)) (take count places) lentList answer word list
+    → Always (MendsKept c stored) (answer .outcome) (leftBy answer word list)
+stored-mended {count = count} {places} P W =
     record {
-      places = take count places;
-      located = P .located;
-      is-word = w ∙ ap (λ (xs : List ℕ). flipped xs (take count places)) e;
-      is-list = l ∙ ap (λ (x : ℕ). take count places ++ replicate (x - length (take count places)) 0) (P .ready .list-long);
-      counts = sym (length-take-le count places (P .within));
+      is-done = W .is-done;
+      did = record {
+        places = take count places;
+        located = P .located;
+        is-word = W .is-word;
+        is-list = W .is-list ∙ ap (λ (x : ℕ). take count places ++ replicate (x - length (take count places)) 0) (P .ready .list-long);
+        counts = W .counts;
+      };
     }

@@ -10,7 +10,6 @@ use codes::Look;
 use decode::Decoded;
 use kept::Kept;
 use locate::Found;
-use sheet::Outcome;
 use sheet::Refusal;
 
 pub fn decode_kept(stored: Kept, word: &mut [u8], list: &mut [u16]) -> Decoded
@@ -72,11 +71,5 @@ fn put_stored(
 {
     let n = code.n;
     let bits = stored.bits;
-    bits::copy_at(word, 0, &bits[..n]);
-    bits::flip_all(word, places, count);
-    entries::put_list(&places[..count], list);
-    Decoded {
-        outcome: Outcome::Done,
-        wrong: count,
-    }
+    decode::put_down(&bits[..n], places, count, word, list)
 }

@@ -5,7 +5,7 @@ use mathlib.Core.Logic.{_≢_, _↔_}
 use Prim.Native.Nat.{ℕ, _+_, _/_, _%_, _≤_}
 use lib.ListN.{length, getD, replicate}
 use Rattle.sheet.specs.declared.Refusal.{Refusal}
-use Rattle.sheet.specs.declared.Refusal.the-variants.{NothingNear, SecondCheck}
+use Rattle.sheet.specs.declared.Refusal.the-variants.{NothingNear}
 use Rattle.sheet.specs.declared.Outcome.{Outcome}
 use Rattle.sheet.specs.declared.Outcome.the-variants.{Done, Refused}
 use Rattle.sheet.specs.Number.{numberOf}
@@ -38,9 +38,9 @@ use Rattle.frame.specs.declared.reading.ReadFrame.{ReadFrame}
 use Rattle.frame.specs.Read.{Reads, frameChecks}
 use Rattle.lister.specs.Listing.{Lines, Steps, framesOf}
 use Rattle.maker.specs.Making.{allLines, GiveAll}
-use Rattle.demands.specs.Words.{OneOutcome, OneCondition, RefusedStays, NeverLookedAt}
-use Rattle.demands.specs.Words.{Numbered, GaloisField, Divides, LeastCommonMultiple, Received, After, resulting, Elsewhere, editedMessage, OnlyStretch}
-use Rattle.demands.specs.Words.{joined, EndsShort, MakingRun}
+use Rattle.demands.specs.Words.{OneOutcome, NeverStruck, OneCondition, RefusedStays, NeverLookedAt}
+use Rattle.demands.specs.Words.{Numbered, GaloisField, Divides, LeastCommonMultiple, Received, PassesAgain}
+use Rattle.demands.specs.Words.{After, resulting, Elsewhere, editedMessage, OnlyStretch, joined, EndsShort, MakingRun}
 use Rattle.demands.proofs.TheCode.{checks-by-rule, k-by-rule, codes-in-number, sizes-by-rule, sizes-n, sizes-as-described, the-field, all-ones}
 use Rattle.demands.proofs.TheCode.{generator-is-lcm, lcm-is-generator, code-by-generator}
 use Rattle.demands.proofs.OneOutcome.{sizes-one, describe-one, encode-one, encode-sends}
@@ -52,8 +52,8 @@ use Rattle.demands.proofs.FrameOutcome.{make-one, read-one}
 use Rattle.demands.proofs.ListingOutcome.{listing-one, lists-one, lines-so-far, pieces-listed, short-frame}
 use Rattle.demands.proofs.TypedOutcome.{typed-one}
 use Rattle.demands.proofs.MakingOutcome.{give-all-one, run-gives}
-use Rattle.demands.proofs.Exactly.{decode-refused, decode-nothing, decode-never-8, read-refused, read-nothing, read-never-8}
-use Rattle.demands.proofs.Exactly.{decode-kept-refused, decode-kept-nothing, decode-kept-never-8}
+use Rattle.demands.proofs.Exactly.{decode-refused, decode-nothing, decode-kept-refused, decode-kept-nothing, read-refused, read-nothing}
+use Rattle.demands.proofs.Struck.{never-answered, mended-again}
 use Rattle.demands.proofs.Stays.{sizes-stays, describe-stays, decode-stays, decode-kept-stays, read-stays}
 use Rattle.demands.proofs.Lent.{describe-lent, encode-lent, decode-lent, decode-kept-lent, make-lent}
 
@@ -85,6 +85,10 @@ demand-1 =
 -- docs/SCOPE.md 9: "Each refusal has one number and one condition;"
 pub demand-1-numbers : {r s : Refusal} → numberOf r ≡ numberOf s → r ≡ s
 demand-1-numbers e = number-tells e
+
+-- docs/SCOPE.md 5.1: "8 is struck: no refusal has this number, and none will get it again." Under no C name is it answered.
+pub demand-1-struck : NeverStruck
+demand-1-struck = never-answered
 
 pub demand-1-conditions : OneCondition
 demand-1-conditions =
@@ -199,17 +203,10 @@ pub demand-2-refusing-frame : (frame : List ℕ) {x : ReadFrame} → Reads frame
     → (x .outcome ≡ Refused NothingNear) ↔ ((verdict (frameChecks frame) ≡ Done) × Far 8 23 23 (wordOf frame))
 demand-2-refusing-frame frame p = read-nothing frame p
 
--- 8 never comes.
-pub demand-2-never-8 : {m t : ℕ} {received lentWord lentList word list : List ℕ} {x : Decoded} → Decodes m t received lentWord lentList x word list
-    → x .outcome ≢ Refused SecondCheck
-demand-2-never-8 p = decode-never-8 p
-
-pub demand-2-never-8-kept : {stored : Kept} {lentWord lentList word list : List ℕ} {x : Decoded} → DecodesKept stored lentWord lentList x word list
-    → x .outcome ≢ Refused SecondCheck
-demand-2-never-8-kept p = decode-kept-never-8 p
-
-pub demand-2-never-8-frame : (frame : List ℕ) {x : ReadFrame} → Reads frame x → x .outcome ≢ Refused SecondCheck
-demand-2-never-8-frame frame p = read-never-8 frame p
+-- docs/SCOPE.md 5.1: "A mended word always passes this check."
+pub demand-2-mended : {m t : ℕ} {received lentWord lentList word list : List ℕ} {x : Decoded} → Decodes m t received lentWord lentList x word list
+    → x .outcome ≡ Done → PassesAgain m t word
+demand-2-mended p e = mended-again p e
 
 -- docs/SCOPE.md 9: "After an accepted Open and any list of splices, refused ones among them, decoding what is kept answers as 2 does for the
 -- resulting bits taken afresh;" the record is the very one that Open gives for these bits.

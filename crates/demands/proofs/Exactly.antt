@@ -1,16 +1,15 @@
--- What each refusal of an operation that searches comes from, exactly: 6 if there is nothing to find, and 8 never. Decode, Decode kept, reading a frame.
+-- What each refusal of an operation that searches comes from, exactly: 6 if there is nothing to find. Decode, Decode kept, reading a frame.
 use mathlib.Core.Path.{_≡_, _∙_, refl, sym, ap}
 use mathlib.Core.List.{List}
-use mathlib.Core.Logic.{_≢_, _↔_, _⊎_, inl, inr}
+use mathlib.Core.Logic.{_↔_, _⊎_, inl, inr}
 use Prim.Native.Nat.{ℕ, _≤_}
 use native.Mathlib.Omega.{arith}
 use Rattle.sheet.specs.declared.Refusal.{Refusal}
-use Rattle.sheet.specs.declared.Refusal.the-variants.{NothingNear, SecondCheck}
+use Rattle.sheet.specs.declared.Refusal.the-variants.{NothingNear}
 use Rattle.sheet.specs.declared.Outcome.the-variants.{Done, Refused}
-use Rattle.sheet.specs.Number.{numberOf}
 use Rattle.sheet.specs.Verdict.{verdict}
 use Rattle.sheet.proofs.VerdictLaws.{Verdict, passed, refused, verdict-cases, answer-is, same-refusal}
-use Rattle.sheet.proofs.VerdictLaws.{never-refused, search-exactly, nothing-exactly, never-answered}
+use Rattle.sheet.proofs.VerdictLaws.{never-refused, search-exactly, nothing-exactly}
 use Rattle.bits.specs.Differences.{distance}
 use Rattle.codes.specs.Look.{codeOf, codeVerdict}
 use Rattle.codes.specs.Sums.{CodeWord}
@@ -24,9 +23,6 @@ use Rattle.frame.specs.Read.{Reads, ReadsReceived, near, far, frameChecks, lead
 use Rattle.demands.specs.Words.{RefusedBy, NearLead}
 use Rattle.demands.proofs.FrameOutcome.{says-any}
 
-not-six : SecondCheck ≢ NothingNear
-not-six e = omega (arith, ap numberOf e)
-
 -- a code word within the radius is not further than the radius
 not-far : {m t radius : ℕ} {received : List ℕ} (left : Mended) → Mends m t radius received left → Far m t radius received → ⊥
 not-far left M f = f (left .word) (M .code-word) (omega (arith, M .counts, M .within))
@@ -39,9 +35,6 @@ module _ {m t : ℕ} {received lentWord lentList word list : List ℕ} {x : Deco
   pub decode-nothing : (x .outcome ≡ Refused NothingNear) ↔ ((codeVerdict m t (decodeChecks received lentWord lentList) ≡ Done) × Far m t t received)
   decode-nothing = nothing-exactly (p .promise) (tt, (tt, (tt, (tt, (tt, (tt, tt)))))) (λ l M f. not-far l M f)
 
-  pub decode-never-8 : x .outcome ≢ Refused SecondCheck
-  decode-never-8 = never-answered (p .promise) SecondCheck (tt, (tt, (tt, (tt, (tt, (tt, tt)))))) not-six
-
 module _ {stored : Kept} {lentWord lentList word list : List ℕ} {x : Decoded} (p : DecodesKept stored lentWord lentList x word list) where
   pub decode-kept-refused : (r : Refusal) → (x .outcome ≡ Refused r)
       ↔ RefusedBy (codeVerdict (stored .m) (stored .t) (decodeKeptChecks stored lentWord lentList)) r
@@ -51,9 +44,6 @@ module _ {stored : Kept} {lentWord lentList word list : List ℕ} {x : Decoded} 
   pub decode-kept-nothing : (x .outcome ≡ Refused NothingNear)
       ↔ ((codeVerdict (stored .m) (stored .t) (decodeKeptChecks stored lentWord lentList) ≡ Done) × NoSet (codeOf (stored .m) (stored .t)) stored)
   decode-kept-nothing = nothing-exactly (p .promise) (tt, (tt, (tt, (tt, (tt, tt))))) (λ l M none. none (M .places) (M .located))
-
-  pub decode-kept-never-8 : x .outcome ≢ Refused SecondCheck
-  decode-kept-never-8 = never-answered (p .promise) SecondCheck (tt, (tt, (tt, (tt, (tt, tt))))) not-six
 
 -- reading a frame refuses by a check before mending, with 6, or by the lead of the mended word
 module _ (frame : List ℕ) {x : ReadFrame} (p : Reads frame x) where
@@ -95,12 +85,3 @@ module _ (frame : List ℕ) {x : ReadFrame} (p : Reads frame x) where
       there (inl z) = absurd (never-refused (frameChecks frame) NothingNear (tt, (tt, tt)) z)
       there (inr (z, inl (e, f))) = (z, f)
       there (inr (z, inr (word, C, d, l))) = absurd (never-refused (leadChecks word) NothingNear (tt, tt) l)
-
-  pub read-never-8 : x .outcome ≢ Refused SecondCheck
-  read-never-8 e = pick (read-refused SecondCheck .0 e)
-    where
-      pick : RefusedBy (verdict (frameChecks frame)) SecondCheck
-          (((SecondCheck ≡ NothingNear) × Far 8 23 23 (wordOf frame)) ⊎ NearLead (wordOf frame) SecondCheck) → ⊥
-      pick (inl z) = never-refused (frameChecks frame) SecondCheck (tt, (tt, tt)) z
-      pick (inr (z, inl (a, f))) = not-six a
-      pick (inr (z, inr (word, C, d, l))) = never-refused (leadChecks word) SecondCheck (tt, tt) l

@@ -34,7 +34,7 @@ pub answer-same : {x y : Answer} → (x .outcome ≡ y .outcome) × (x .record �
 answer-same (o, r) = ap₂ (λ (a : Outcome) (k : Kept). record { outcome = a; «record» = k }) o r
 
 -- two rows with the same first t entries and the same others
-rows-same : (t : ℕ) (xs ys : List ℕ) → length xs ≡ length ys → ((i : ℕ) → i < t → getD xs i 0 ≡ getD ys i 0)
+pub rows-same : (t : ℕ) (xs ys : List ℕ) → length xs ≡ length ys → ((i : ℕ) → i < t → getD xs i 0 ≡ getD ys i 0)
     → ((i : ℕ) → t ≤ i → getD xs i 0 ≡ getD ys i 0) → xs ≡ ys
 rows-same t xs ys l f g = ext-getD 0 xs ys l (λ i h. pick i (decLt i t))
   where

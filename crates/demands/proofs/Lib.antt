@@ -14,6 +14,7 @@ pub mod NoSet
 pub mod Cases
 pub mod CardOutcome
 pub mod Exactly
+pub mod Struck
 pub mod Stays
 pub mod Lent
 pub mod Demands

@@ -8,7 +8,7 @@ use lib.ListN.{length, replicate}
 use Rattle.sheet.specs.declared.Outcome.{Outcome}
 use Rattle.sheet.specs.declared.Outcome.the-variants.{Done}
 use Rattle.sheet.specs.Verdict.{finds, finds-nothing}
-use Rattle.sheet.proofs.VerdictLaws.{Verdict, passed, refused, verdict-cases, not-done, does, search-one}
+use Rattle.sheet.proofs.VerdictLaws.{not-done, does, done-passed, search-one}
 use Rattle.bits.specs.Bits.{AreBits, listOf, flipped}
 use Rattle.bits.specs.Differences.{differences, distance, Ascending}
 use Rattle.bits.proofs.Lists.{list-at}
@@ -112,8 +112,7 @@ word-unchanged {m} {t} {c} {lentWord} {lentList} {word} {list} {x} C z p =
 -- what an accepted Decode that mends gives
 pub decode-received : {m t : ℕ} {received lentWord lentList word list : List ℕ} {x : Decoded} → Decodes m t received lentWord lentList x word list
     → x .outcome ≡ Done → Received m t received (x .wrong) word list
-decode-received {m} {t} {received} {lentWord} {lentList} {word} {list} {x} p e =
-    pick (verdict-cases (codeVerdict m t (decodeChecks received lentWord lentList)))
+decode-received {m} {t} {received} {lentWord} {lentList} {word} {list} {x} p e = let z = done-passed (p .promise) e in tells z (p .promise .done z)
   where
     tells : codeVerdict m t (decodeChecks received lentWord lentList) ≡ Done
         → MendsWithin (codeOf m t) t received lentWord lentList (x .outcome) (leftBy x word list) → Received m t received (x .wrong) word list
@@ -130,7 +129,3 @@ decode-received {m} {t} {received} {lentWord} {lentList} {word} {list} {x} p e =
           lists = M .lists;
         }
     tells z (finds-nothing a f s) = absurd (not-done (sym a ∙ e))
-
-    pick : Verdict (codeVerdict m t (decodeChecks received lentWord lentList)) → Received m t received (x .wrong) word list
-    pick (passed z) = tells z (p .promise .done z)
-    pick (refused r z) = absurd (not-done (sym (p .promise .refused r z .0) ∙ e))

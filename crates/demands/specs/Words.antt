@@ -10,6 +10,7 @@ use Rattle.sheet.specs.declared.Refusal.{Refusal}
 use Rattle.sheet.specs.declared.Refusal.the-variants.{NothingNear, FrameLength}
 use Rattle.sheet.specs.declared.Outcome.{Outcome}
 use Rattle.sheet.specs.declared.Outcome.the-variants.{Done, Refused}
+use Rattle.sheet.specs.Number.{struck}
 use Rattle.sheet.specs.Verdict.{verdict}
 use Rattle.bits.specs.Bits.{AreBits, hasBadBit, runsPast}
 use Rattle.bits.specs.Differences.{differences, distance, Ascending}
@@ -18,7 +19,7 @@ use Rattle.field.specs.Sum.{_⊕_}
 use Rattle.field.specs.Product.{_⊗⟨_⟩_}
 use Rattle.field.specs.Power.{a, nOf, power, inverse}
 use Rattle.codes.specs.Look.{kOf, codeOf, codeVerdict}
-use Rattle.codes.specs.Sums.{CodeWord}
+use Rattle.codes.specs.Sums.{CodeWord, sumOf}
 use Rattle.generator.specs.Minimal.{Minimal}
 use Rattle.codec.specs.declared.describing.Described.{Described}
 use Rattle.codec.specs.Sizes.{GivesSizes, sizesChecks}
@@ -38,6 +39,12 @@ use Rattle.layout.specs.Frame.{wordOf}
 use Rattle.frame.specs.declared.reading.ReadFrame.{ReadFrame}
 use Rattle.frame.specs.Make.{Makes, makeChecks}
 use Rattle.frame.specs.Read.{Reads, frameChecks, leadChecks, givenBy, zeros}
+use Rattle.blentovar.specs.declared.SizesAnswer.{SizesAnswer}
+use Rattle.blentovar.specs.declared.DecodeAnswer.{DecodeAnswer}
+use Rattle.blentovar.specs.declared.Record.{Record}
+use Rattle.blentovar.specs.declared.KeptAnswer.{KeptAnswer}
+use Rattle.blentovar.specs.declared.ReadAnswer.{ReadAnswer}
+use Rattle.blentovar.specs.Answers.{SizesAs, DescribesAs, EncodesAs, DecodesAs, EditsAs, OpensAs, SplicesAs, DecodesKeptAs, MakesAs, ReadsAs}
 use Rattle.line.specs.Line.{refusedLine}
 use Rattle.lister.specs.Listing.{Lines, Lists}
 use Rattle.typed.specs.declared.Typed.{Typed}
@@ -75,6 +82,21 @@ pub record OneOutcome : Type 0 where
   pub read-frame : (frame : List ℕ) → One (Reads frame)
   pub list-frames : (first : ℕ) (bytes lent : List ℕ) → One (λ (o : ℕ × List ℕ). Lists first bytes lent (o .1) (o .0))
   pub read-line : (line : List ℕ) → One (λ (o : Typed). Answers line o)
+
+-- no call of the library answers the struck number
+pub record NeverStruck : Type 0 where
+  pub sizes : {m t : ℕ} {r : SizesAnswer} → SizesAs m t r → r .number ≢ struck
+  pub describe : {m t : ℕ} {lent left : List ℕ} {r : SizesAnswer} → DescribesAs m t lent r left → r .number ≢ struck
+  pub encode : {m t r : ℕ} {message lent left : List ℕ} → EncodesAs m t message lent r left → r ≢ struck
+  pub decode : {m t : ℕ} {received lentWord lentList word list : List ℕ} {r : DecodeAnswer} → DecodesAs m t received lentWord lentList r word list
+      → r .number ≢ struck
+  pub edit : {m t start r : ℕ} {lent stretch left : List ℕ} → EditsAs m t lent start stretch r left → r ≢ struck
+  pub opening : {m t : ℕ} {word : List ℕ} {r : KeptAnswer} → OpensAs m t word r → r .number ≢ struck
+  pub splice : (stored : Record) {start : ℕ} {stretch : List ℕ} {r : KeptAnswer} → SplicesAs stored start stretch r → r .number ≢ struck
+  pub decode-kept : (stored : Record) {lentWord lentList word list : List ℕ} {r : DecodeAnswer} → DecodesKeptAs stored lentWord lentList r word list
+      → r .number ≢ struck
+  pub make-frame : {house poll counter r : ℕ} {lent left : List ℕ} → MakesAs house poll counter lent r left → r ≢ struck
+  pub read-frame : (frame : List ℕ) {r : ReadAnswer} → ReadsAs frame r → r .number ≢ struck
 
 -- The outcome is what the checks come to. Where an operation searches once they have passed, a refusal is that of a check, or it is 6 and there is nothing
 -- to find; of a frame, also what the lead of the code word near it comes to.
@@ -188,6 +210,12 @@ pub record Received (m t : ℕ) (received : List ℕ) (wrong : ℕ) (word list :
   pub count : wrong ≡ distance received word
   pub upward : Ascending (differences received word)
   pub lists : list ≡ differences received word ++ replicate (t - wrong) 0
+
+-- The second check of a word's sums, for which 8 stood: S_1 to S_2t, worked out once more, are all 0. Whoever opens the word can see it: Open works out
+-- the odd ones, and they are zeros.
+pub record PassesAgain (m t : ℕ) (word : List ℕ) : Type 0 where
+  pub sums : (j : ℕ) → 1 ≤ j → j ≤ 2 * t → sumOf m j word ≡ 0
+  pub opens : (y : Answer) → Opens m t word y → (y .outcome ≡ Done) × (y .record .sums ≡ replicate 255 0)
 
 -- 3. what is kept, and what is edited
 

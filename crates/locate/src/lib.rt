@@ -8,7 +8,6 @@ ghost use Rattle.entries.specs.Entries.{Filled};
 ghost use Rattle.field.specs.Product.{IsField};
 ghost use Rattle.field.specs.Power.{nOf};
 ghost use Rattle.field.specs.Tables.{Powers, Tables};
-ghost use Rattle.sums.specs.Rows.{Vanish};
 ghost use Rattle.sums.specs.OddSums.{OddSums};
 ghost use Rattle.locate.specs.Search.{Searched, WordSearched};
 ghost use Rattle.locate.specs.Work.{plusTerm, tried, NotedOne, Tried, Agrees, Sought};
@@ -194,16 +193,6 @@ pub fn odd_sums(m: usize, t: usize, word: &[u8]) -> [u16; 255]
     let mut powers = field::powers_space();
     field::fill_powers(m, &mut powers);
     sums::odd_sums(m, t, &powers, word)
-}
-
-// Whether S_1, S_3, .. S_(2t-1) of a word are all 0.
-pub fn vanish(m: usize, t: usize, word: &[u8]) -> bool
-    requires { ⌜ IsField m × AreBits (now word) × (length (now word) ≡ nOf m) × (t ≤ 255) ⌝ }
-    ensures { λ r. ⌜ Vanish m t (now (word .entry)) r ⌝ }
-{
-    let mut powers = field::powers_space();
-    field::fill_powers(m, &mut powers);
-    sums::vanish(m, t, &powers, word)
 }
 
 // The places with the sums of a word.

@@ -70,6 +70,14 @@ module _ {L : Type 0} {Does : Outcome → L → Type 0} {stays : L} where
   pub does : {checks : List Check} {answer : Outcome} {left : L} → verdict checks ≡ Done → Does answer left → Promise checks Does stays answer left
   does e d = record { refused = λ s z. absurd (not-done (sym z ∙ e)); done = λ z. d }
 
+  -- where it is done, all checks have passed
+  pub done-passed : {checks : List Check} {answer : Outcome} {left : L} → Promise checks Does stays answer left → answer ≡ Done → verdict checks ≡ Done
+  done-passed {checks} {answer} p e = pick (verdict-cases (verdict checks))
+    where
+      pick : Verdict (verdict checks) → verdict checks ≡ Done
+      pick (passed z) = z
+      pick (refused r z) = absurd (not-done (sym (p .refused r z .0) ∙ e))
+
   -- a refusal leaves everything as it was, if a refusal past the checks does so
   pub refused-stays : {checks : List Check} {answer : Outcome} {left : L} → (Does answer left → answer ≢ Done → left ≡ stays)
       → Promise checks Does stays answer left → answer ≢ Done → left ≡ stays
@@ -110,11 +118,6 @@ module _ {L : Type 0} {Did : L → Type 0} where
       pick : Verdict (verdict checks) → answer ≡ verdict checks
       pick (passed e) = p .done e .is-done ∙ sym e
       pick (refused r e) = p .refused r e .0 ∙ sym e
-
-  -- where it is done, all checks have passed
-  pub done-passed : {checks : List Check} {stays : L} {answer : Outcome} {left : L} → Promise checks (Always Did) stays answer left → answer ≡ Done
-      → verdict checks ≡ Done
-  done-passed p e = sym (answer-is p) ∙ e
 
 -- an operation that searches has one outcome, if at most one thing can be found and nothing can be found where `Nothing` holds
 pub search-one : {L : Type 0} {Found : L → Type 0} {Nothing : Type 0} {stays : L} {x y : Outcome} {left left′ : L}
@@ -179,11 +182,3 @@ module _ {L : Type 0} {Found : L → Type 0} {Nothing : Type 0} {stays : L} {che
       there : (verdict checks ≡ Refused NothingNear) ⊎ ((verdict checks ≡ Done) × ((NothingNear ≡ NothingNear) × Nothing)) → (verdict checks ≡ Done) × Nothing
       there (inl z) = absurd (never-refused checks NothingNear n z)
       there (inr (z, (e, f))) = (z, f)
-
-  -- a refusal that is neither 6 nor among the checks never comes
-  pub never-answered : (r : Refusal) → NotAmong (numberOf r) checks → r ≢ NothingNear → answer ≢ Refused r
-  never-answered r n d e = pick (search-refused e)
-    where
-      pick : (verdict checks ≡ Refused r) ⊎ ((verdict checks ≡ Done) × ((r ≡ NothingNear) × Nothing)) → ⊥
-      pick (inl z) = never-refused checks r n z
-      pick (inr (z, (f, g))) = d f

@@ -18,8 +18,7 @@ pub enum Refusal {
     NothingNear,
     // 7: in a kept record one of the first n bits is above 1 or one of the first t sums is 2^m or more.
     RecordContents,
-    // 8: the mended word fails a second check of its sums.
-    SecondCheck,
+    // 8 is struck, and no refusal gets it again.
     // 9: a frame is not 32 bytes.
     FrameLength,
     // 10: a frame's last bit is 1.
@@ -57,7 +56,6 @@ pub fn number(r: Refusal) -> u32
         Refusal::BitAboveOne => 5,
         Refusal::NothingNear => 6,
         Refusal::RecordContents => 7,
-        Refusal::SecondCheck => 8,
         Refusal::FrameLength => 9,
         Refusal::PadBit => 10,
         Refusal::LeadBits => 11,

@@ -1,6 +1,5 @@
 -- Rows of odd sums: entry i stands for S_(2i+1); no promise rests on it.
 use mathlib.Core.Path.{_≡_}
-use mathlib.Core.Bool.{Bool, true, false}
 use mathlib.Core.List.{List}
 use Prim.Native.Nat.{ℕ, _+_, _*_, _≤_, _<_}
 use lib.ListN.{length, getD, take}
@@ -25,8 +24,3 @@ pub record Ones (word : List ℕ) (count : ℕ) (places : List ℕ) : Type 0 whe
   pub within : count ≤ length places
   pub below : (i : ℕ) → i < count → getD places i 0 < length word
   pub same : {m : ℕ} → IsField m → (j : ℕ) → sumOver m j (take count places) ≡ sumOf m j word
-
--- the first t odd sums of a word are all 0, or not all of them
-pub record Vanish (m t : ℕ) (word : List ℕ) (r : Bool) : Type 0 where
-  pub yes : r ≡ true → (i : ℕ) → i < t → sumOf m (2 * i + 1) word ≡ 0
-  pub no : r ≡ false → ((i : ℕ) → i < t → sumOf m (2 * i + 1) word ≡ 0) → ⊥

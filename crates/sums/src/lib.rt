@@ -8,7 +8,7 @@ ghost use Rattle.entries.specs.Entries.{Filled};
 ghost use Rattle.field.specs.Product.{IsField};
 ghost use Rattle.field.specs.Power.{a, nOf, power};
 ghost use Rattle.field.specs.Tables.{Powers};
-ghost use Rattle.sums.specs.Rows.{plusPower, wordSum, placeSum, Ones, Vanish};
+ghost use Rattle.sums.specs.Rows.{plusPower, wordSum, placeSum, Ones};
 ghost use Rattle.sums.specs.OddSums.{OddSums};
 
 // Adds x, x^3, x^5, .. to the first t entries, where x is a^p. The exponents of a are p, 3p, 5p, ..
@@ -90,13 +90,4 @@ pub fn odd_sums(m: usize, t: usize, powers: &[u16], word: &[u8]) -> [u16; 255]
     let mut sums = space();
     word_sums(m, powers, t, word, &mut sums);
     sums
-}
-
-// Whether S_1, S_3, .. S_(2t-1) of a word are all 0.
-pub fn vanish(m: usize, t: usize, powers: &[u16], word: &[u8]) -> bool
-    requires { ⌜ IsField m × Powers m (now powers) × AreBits (now word) × (length (now word) ≡ nOf m) × (t ≤ 255) ⌝ }
-    ensures { λ r. ⌜ Vanish m t (now (word .entry)) r ⌝ }
-{
-    let sums = odd_sums(m, t, powers, word);
-    entries::all_zero(t, &sums)
 }

@@ -1,8 +1,8 @@
 -- What the search tells decides.
-use mathlib.Core.Path.{_≡_}
+use mathlib.Core.Path.{_≡_, _∙_, sym}
 use native.Mathlib.Omega.{arith}
 use lib.ListN.{length}
-use Rattle.decode.proofs.DecodeSteps.{wrong-places, none-near}
+use Rattle.decode.proofs.DecodeSteps.{told-places, can-put, put-mends, none-near}
 use borrow.Author.Needs.{needs}
 use Rattle.decode.proofs.mend_received.Statement.{statement}
 use Rattle.decode.proofs.mend_received.Tie as tie
@@ -13,19 +13,21 @@ of-word-requires c κs = search needs
 enum-known-answer : tie.Need-enum-known-answer
 enum-known-answer c = search needs
 
-slice-aggregate-put-first : tie.Need-slice-aggregate-put-first
-slice-aggregate-put-first c = search needs
+slice-aggregate-put-down : tie.Need-slice-aggregate-put-down
+slice-aggregate-put-down c = search needs
 
 room : (c : tie.After-of-word) → length (c .of-word .result .places) ≡ 255
 room c = search needs
 
-put-first-requires : tie.Need-put-first-requires
-put-first-requires c κs =
+put-down-requires : tie.Need-put-down-requires
+put-down-requires c κs =
     let told = c .before .before .before .before in
     let searched = told .before .before .before in
     let entry = searched .before .before .before .before in
-    let w = wrong-places (searched .of-word .ensures) (told .answer .given .1) in
-    record { ready = entry .pre; within = omega (arith, room searched, w .0); wrong = w .1 }
+    let ready = entry .pre in
+    let (few, located) = told-places (searched .of-word .ensures .searched) (told .answer .given .1) in
+    can-put (ready .received-bits) (ready .received-long ∙ ready .known .is-n) (ready .word-long ∙ sym (ready .received-long)) (ready .list-long)
+    (omega (arith, room searched, few)) located
 
 enum-told : tie.Need-enum-told
 enum-told c = search needs
@@ -40,7 +42,13 @@ same-length-2 : tie.Need-same-length-2
 same-length-2 c = search needs
 
 returns : tie.Need-returns
-returns c = search needs
+returns c =
+    let put = c .before .before .before .before in
+    let told = put .before .before .before .before .before in
+    let searched = told .before .before .before in
+    let entry = searched .before .before .before .before in
+    let search = searched .of-word .ensures in
+    put-mends (entry .pre) (search .of-word) (told-places (search .searched) (told .answer .given .1) .1) (put .put-down .ensures)
 
 returns-2 : tie.Need-returns-2
 returns-2 c =
@@ -53,8 +61,8 @@ mend-received-spec =
     (tie.spec
     of-word-requires
     enum-known-answer
-    slice-aggregate-put-first
-    put-first-requires
+    slice-aggregate-put-down
+    put-down-requires
     enum-told
     refused-requires
     same-length

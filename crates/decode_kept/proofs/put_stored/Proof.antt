@@ -1,11 +1,9 @@
--- The stored bits are copied, and the places turned over there.
-use mathlib.Core.Path.{_≡_, _∙_, sym, ap, subst}
+-- The first n of the stored bits are lent, and the places turned over there.
+use mathlib.Core.Path.{_≡_, sym}
 use native.Mathlib.Omega.{arith}
 use lib.ListN.{length, take}
 use lib.Seq.{length-take-le}
-use Rattle.sheet.proofs.VerdictLaws.{always}
-use Rattle.bits.specs.Bits.{AreBits}
-use Rattle.decode_kept.proofs.DecodeKeptLaws.{stored-copied, stored-mended}
+use Rattle.decode_kept.proofs.DecodeKeptLaws.{stored-can-put, stored-mended}
 use borrow.Author.Needs.{needs}
 use Rattle.decode_kept.proofs.put_stored.Statement.{statement}
 use Rattle.decode_kept.proofs.put_stored.Tie as tie
@@ -16,40 +14,20 @@ bits-long entry = search needs
 front-long : (entry : tie.Start) → length (take (entry .args .code .n) (entry .args .stored .bits)) ≡ entry .args .code .n
 front-long entry = length-take-le (entry .args .code .n) (entry .args .stored .bits) (omega (arith, bits-long entry, entry .pre .ready .known .small))
 
--- the start, seen from where the bits are lent and from past the copying, and what is copied
-abbrev start : tie.After-copy-at-arg → tie.Start
-start c = c .before .before .before .before .before
-
-abbrev lent : tie.After-copy-at → tie.Start
-lent c = start (c .before .before)
-
-copied : (c : tie.After-copy-at) → c .copy-at .last .0 ≡ take (lent c .args .code .n) (lent c .args .stored .bits)
-copied c = stored-copied (lent c .pre .ready) (bits-long (lent c)) (c .copy-at .kept .0) (c .copy-at .ensures)
+-- the start, seen from where the bits are taken out
+abbrev start : tie.After-bits → tie.Start
+start c = c .before .before .before .before
 
 array-share-prefix-bits : tie.Need-array-share-prefix-bits
 array-share-prefix-bits c = omega (arith, bits-long (start c), start c .pre .ready .known .small)
 
-slice-aggregate-copy-at : tie.Need-slice-aggregate-copy-at
-slice-aggregate-copy-at c = sym (front-long (start (c .before)))
+slice-aggregate-put-down : tie.Need-slice-aggregate-put-down
+slice-aggregate-put-down c = sym (front-long (start (c .before)))
 
-copy-at-requires : tie.Need-copy-at-requires
-copy-at-requires c κs = omega (arith, front-long (start (c .before)), start (c .before) .pre .ready .word-long)
-
-flip-all-requires : tie.Need-flip-all-requires
-flip-all-requires c κs =
-    let copying = c .before .before .before in
-    let can = lent copying .pre in
-    let long = ap length (copied copying) ∙ front-long (lent copying) ∙ can .ready .known .is-n in
-    (subst AreBits (sym (copied copying)) (can .ready .sound .bits), can .within, λ p k. omega (arith, can .located .below p k, long))
-
-slice-aggregate-put-list : tie.Need-slice-aggregate-put-list
-slice-aggregate-put-list c =
-    let turned = c .before .before .before in
-    let entry = lent (turned .before .before .before .before) in
-    sym (length-take-le (entry .args .count) (entry .args .places .now) (entry .pre .within))
-
-put-list-requires : tie.Need-put-list-requires
-put-list-requires c κs = search needs
+put-down-requires : tie.Need-put-down-requires
+put-down-requires c κs =
+    let entry = start (c .before .before .before) in
+    stored-can-put (entry .pre) (front-long entry)
 
 same-length : tie.Need-same-length
 same-length c = search needs
@@ -59,23 +37,17 @@ same-length-2 c = search needs
 
 returns : tie.Need-returns
 returns c =
-    let listed = c .before .before in
-    let turned = listed .before .before .before .before .before in
-    let copying = turned .before .before .before .before in
-    let entry = lent copying in
-    let mended = stored-mended (entry .args .count) (entry .args .places .now) (entry .pre) (copied copying) in
-    always (mended (turned .flip-all .ensures) (listed .put-list .ensures))
+    let put = c .before .before .before .before in
+    let entry = start (put .before .before .before .before) in
+    stored-mended (entry .pre) (put .put-down .ensures)
 
 pub put-stored-spec : {M : Type 1} → statement M
 put-stored-spec =
     tie.close
     (tie.spec
     array-share-prefix-bits
-    slice-aggregate-copy-at
-    copy-at-requires
-    flip-all-requires
-    slice-aggregate-put-list
-    put-list-requires
+    slice-aggregate-put-down
+    put-down-requires
     same-length
     same-length-2
     returns)
