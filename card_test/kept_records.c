@@ -41,45 +41,43 @@ static blentovar_kept handed_in(const struct record_text *text)
     return record;
 }
 
-static int is_answer(const blentovar_kept_answer *answer, uint32_t number, const struct record_text *text)
-{
-    blentovar_kept_answer expected = {number, 0, record_of(text)};
-    return SAME_BYTES(*answer, expected);
-}
-
+/* In rows of Open and Splice, the buffer and the place that come with 5, and zeros where another number stands. */
 struct open_row {
     size_t m, t;
     const char *word;
-    uint32_t number;
+    uint32_t number, buffer;
+    size_t place;
     struct record_text record;
 };
 
 static const struct open_row open_rows[] = {
-    {4, 3, "0*15", 0, {4, 3, "", ""}},
-    {4, 3, "1*4 0*11", 0, {4, 3, "1*4", "15 15 1"}},
-    {4, 3, "1*3 0 1 0*10", 0, {4, 3, "1*3 0 1", "4 10 6"}},
-    {4, 2, "0*3 1 0*11", 0, {4, 2, "0*3 1", "8 10"}},
-    {3, 1, "1*7", 0, {3, 1, "1*7", ""}},
-    {10, 255, "1*1023", 0, {10, 255, "1*1023", ""}},
-    {10, 255, "0*1023", 0, {10, 255, "", ""}},
+    {4, 3, "0*15", 0, 0, 0, {4, 3, "", ""}},
+    {4, 3, "1*4 0*11", 0, 0, 0, {4, 3, "1*4", "15 15 1"}},
+    {4, 3, "1*3 0 1 0*10", 0, 0, 0, {4, 3, "1*3 0 1", "4 10 6"}},
+    {4, 2, "0*3 1 0*11", 0, 0, 0, {4, 2, "0*3 1", "8 10"}},
+    {3, 1, "1*7", 0, 0, 0, {3, 1, "1*7", ""}},
+    {10, 255, "1*1023", 0, 0, 0, {10, 255, "1*1023", ""}},
+    {10, 255, "0*1023", 0, 0, 0, {10, 255, "", ""}},
     /* 1 at place 0 adds 1 to each sum */
-    {10, 255, "0 1*1022", 0, {10, 255, "0 1*1022", "1*255"}},
-    {2, 1, "1*3", 1, {0, 0, "", ""}},
-    {11, 1, "1*1023", 1, {0, 0, "", ""}},
-    {LARGEST, 3, "1*15", 1, {0, 0, "", ""}},
-    {4, 4, "1*15", 2, {0, 0, "", ""}},
-    {7, 8, "1*127", 2, {0, 0, "", ""}},
-    {10, 256, "1*1023", 2, {0, 0, "", ""}},
-    {4, 3, "1*14", 3, {0, 0, "", ""}},
-    {4, 3, "1*16", 3, {0, 0, "", ""}},
-    {4, 3, "", 3, {0, 0, "", ""}},
-    {4, 3, NULL, 3, {0, 0, "", ""}},
-    {4, 3, "2 1*14", 5, {0, 0, "", ""}},
-    {4, 3, "1*14 255", 5, {0, 0, "", ""}},
+    {10, 255, "0 1*1022", 0, 0, 0, {10, 255, "0 1*1022", "1*255"}},
+    {2, 1, "1*3", 1, 0, 0, {0, 0, "", ""}},
+    {11, 1, "1*1023", 1, 0, 0, {0, 0, "", ""}},
+    {LARGEST, 3, "1*15", 1, 0, 0, {0, 0, "", ""}},
+    {4, 4, "1*15", 2, 0, 0, {0, 0, "", ""}},
+    {7, 8, "1*127", 2, 0, 0, {0, 0, "", ""}},
+    {10, 256, "1*1023", 2, 0, 0, {0, 0, "", ""}},
+    {4, 3, "1*14", 3, 0, 0, {0, 0, "", ""}},
+    {4, 3, "1*16", 3, 0, 0, {0, 0, "", ""}},
+    {4, 3, "", 3, 0, 0, {0, 0, "", ""}},
+    {4, 3, NULL, 3, 0, 0, {0, 0, "", ""}},
+    {4, 3, "2 1*14", 5, 0, 0, {0, 0, "", ""}},
+    {4, 3, "1*14 255", 5, 0, 14, {0, 0, "", ""}},
+    {4, 3, "1*7 2 1 3 1*5", 5, 0, 7, {0, 0, "", ""}},
+    {10, 255, "0*1022 2", 5, 0, 1022, {0, 0, "", ""}},
     /* two faults */
-    {2, 0, "1*15", 1, {0, 0, "", ""}},
-    {4, 4, "1*14", 2, {0, 0, "", ""}},
-    {4, 3, "1*15 2", 3, {0, 0, "", ""}},
+    {2, 0, "1*15", 1, 0, 0, {0, 0, "", ""}},
+    {4, 4, "1*14", 2, 0, 0, {0, 0, "", ""}},
+    {4, 3, "1*15 2", 3, 0, 0, {0, 0, "", ""}},
 };
 
 static int open_as_expected(const struct open_row *row)
@@ -87,7 +85,8 @@ static int open_as_expected(const struct open_row *row)
     static struct lent8 word;
     lend8(&word, row->word);
     blentovar_kept_answer answer = blentovar_open(row->m, row->t, word.places, word.length);
-    return is_answer(&answer, row->number, &row->record) && as_expected8(&word);
+    blentovar_kept_answer expected = {row->number, row->buffer, row->place, record_of(&row->record)};
+    return SAME_BYTES(answer, expected) && as_expected8(&word);
 }
 
 /* Where done is absent the record is to come back as it went in. */
@@ -95,7 +94,8 @@ struct splice_row {
     struct record_text record;
     size_t start;
     const char *stretch;
-    uint32_t number;
+    uint32_t number, buffer;
+    size_t place;
     const struct record_text *done;
 };
 
@@ -105,45 +105,48 @@ static const struct record_text all_ones = {10, 255, "1*1023", ""};
 static const struct record_text past_n = {3, 1, "0*6 1 2", "5 8"};
 
 static const struct splice_row splice_rows[] = {
-    {{4, 3, "", ""}, 0, "1*4", 0, &far},
-    {{4, 3, "1*4", "15 15 1"}, 3, "0 1", 0, &near},
-    {{4, 3, "1*4", "15 15 1"}, 0, "0*15", 0, &empty},
-    {{4, 3, "1*4", "15 15 1"}, 0, "1*15", 0, &ones},
-    {{4, 3, "1*4", "15 15 1"}, 0, "1*4", 0, &far},
-    {{4, 3, "1*4", "15 15 1"}, 15, "", 0, &far},
-    {{4, 3, "1*4", "15 15 1"}, 0, NULL, 0, &far},
-    {{10, 255, "", ""}, 0, "1*1023", 0, &all_ones},
+    {{4, 3, "", ""}, 0, "1*4", 0, 0, 0, &far},
+    {{4, 3, "1*4", "15 15 1"}, 3, "0 1", 0, 0, 0, &near},
+    {{4, 3, "1*4", "15 15 1"}, 0, "0*15", 0, 0, 0, &empty},
+    {{4, 3, "1*4", "15 15 1"}, 0, "1*15", 0, 0, 0, &ones},
+    {{4, 3, "1*4", "15 15 1"}, 0, "1*4", 0, 0, 0, &far},
+    {{4, 3, "1*4", "15 15 1"}, 15, "", 0, 0, 0, &far},
+    {{4, 3, "1*4", "15 15 1"}, 0, NULL, 0, 0, 0, &far},
+    {{10, 255, "", ""}, 0, "1*1023", 0, 0, 0, &all_ones},
     /* built by hand: sums that are not those of the bits are added to */
-    {{4, 3, "", "3 7 1"}, 0, "1", 0, &by_hand},
+    {{4, 3, "", "3 7 1"}, 0, "1", 0, 0, 0, &by_hand},
     /* built by hand: what stands past n and past t stays; a^6 is 5 where m is 3 */
-    {{3, 1, "0*7 2", "0 8"}, 6, "1", 0, &past_n},
-    {{0, 0, "", ""}, 0, "1", 1, NULL},
-    {{11, 1, "", ""}, 0, "1", 1, NULL},
-    {{LARGEST, LARGEST, "1*1023", "9*255"}, 0, "1", 1, NULL},
-    {{4, 4, "", ""}, 0, "1", 2, NULL},
-    {{10, 256, "", ""}, 0, "1", 2, NULL},
-    {{4, 3, "2", ""}, 0, "1", 7, NULL},
-    {{4, 3, "0*14 255", ""}, 0, "1", 7, NULL},
-    {{4, 3, "", "16"}, 0, "1", 7, NULL},
-    {{4, 3, "", "0*2 65535"}, 0, "1", 7, NULL},
-    {{10, 255, "0*1022 2", ""}, 0, "", 7, NULL},
-    {{10, 255, "", "0*254 1024"}, 0, "", 7, NULL},
-    {{4, 3, "1*4", "15 15 1"}, 15, "1", 12, NULL},
-    {{4, 3, "1*4", "15 15 1"}, 0, "1*16", 12, NULL},
-    {{4, 3, "1*4", "15 15 1"}, 16, "", 12, NULL},
-    {{4, 3, "1*4", "15 15 1"}, 16, NULL, 12, NULL},
-    {{4, 3, "1*4", "15 15 1"}, LARGEST, "1", 12, NULL},
-    {{4, 3, "1*4", "15 15 1"}, LARGEST, "1 0", 12, NULL},
-    {{4, 3, "1*4", "15 15 1"}, LARGEST, NULL, 12, NULL},
-    {{4, 3, "1*4", "15 15 1"}, 0, "2", 5, NULL},
-    {{4, 3, "1*4", "15 15 1"}, 0, "0*14 255", 5, NULL},
+    {{3, 1, "0*7 2", "0 8"}, 6, "1", 0, 0, 0, &past_n},
+    {{0, 0, "", ""}, 0, "1", 1, 0, 0, NULL},
+    {{11, 1, "", ""}, 0, "1", 1, 0, 0, NULL},
+    {{LARGEST, LARGEST, "1*1023", "9*255"}, 0, "1", 1, 0, 0, NULL},
+    {{4, 4, "", ""}, 0, "1", 2, 0, 0, NULL},
+    {{10, 256, "", ""}, 0, "1", 2, 0, 0, NULL},
+    {{4, 3, "2", ""}, 0, "1", 7, 0, 0, NULL},
+    {{4, 3, "0*14 255", ""}, 0, "1", 7, 0, 0, NULL},
+    {{4, 3, "", "16"}, 0, "1", 7, 0, 0, NULL},
+    {{4, 3, "", "0*2 65535"}, 0, "1", 7, 0, 0, NULL},
+    {{10, 255, "0*1022 2", ""}, 0, "", 7, 0, 0, NULL},
+    {{10, 255, "", "0*254 1024"}, 0, "", 7, 0, 0, NULL},
+    {{4, 3, "1*4", "15 15 1"}, 15, "1", 12, 0, 0, NULL},
+    {{4, 3, "1*4", "15 15 1"}, 0, "1*16", 12, 0, 0, NULL},
+    {{4, 3, "1*4", "15 15 1"}, 16, "", 12, 0, 0, NULL},
+    {{4, 3, "1*4", "15 15 1"}, 16, NULL, 12, 0, 0, NULL},
+    {{4, 3, "1*4", "15 15 1"}, LARGEST, "1", 12, 0, 0, NULL},
+    {{4, 3, "1*4", "15 15 1"}, LARGEST, "1 0", 12, 0, 0, NULL},
+    {{4, 3, "1*4", "15 15 1"}, LARGEST, NULL, 12, 0, 0, NULL},
+    {{4, 3, "1*4", "15 15 1"}, 0, "2", 5, 0, 0, NULL},
+    {{4, 3, "1*4", "15 15 1"}, 0, "0*14 255", 5, 0, 14, NULL},
+    /* the place is counted in the stretch, not in the word */
+    {{4, 3, "1*4", "15 15 1"}, 10, "1 0 2", 5, 0, 2, NULL},
+    {{10, 255, "1*1023", ""}, 1000, "0*22 3", 5, 0, 22, NULL},
     /* two faults */
-    {{2, 0, "", ""}, 0, "1", 1, NULL},
-    {{4, 4, "2", ""}, 0, "1", 2, NULL},
-    {{4, 3, "2", ""}, 15, "1", 7, NULL},
-    {{4, 3, "", "16"}, LARGEST, "1", 7, NULL},
-    {{4, 3, "1*4", "15 15 1"}, 15, "2", 12, NULL},
-    {{4, 3, "1*4", "15 15 1"}, LARGEST, "2", 12, NULL},
+    {{2, 0, "", ""}, 0, "1", 1, 0, 0, NULL},
+    {{4, 4, "2", ""}, 0, "1", 2, 0, 0, NULL},
+    {{4, 3, "2", ""}, 15, "1", 7, 0, 0, NULL},
+    {{4, 3, "", "16"}, LARGEST, "1", 7, 0, 0, NULL},
+    {{4, 3, "1*4", "15 15 1"}, 15, "2", 12, 0, 0, NULL},
+    {{4, 3, "1*4", "15 15 1"}, LARGEST, "2", 12, 0, 0, NULL},
 };
 
 static int splice_as_expected(const struct splice_row *row)
@@ -152,8 +155,9 @@ static int splice_as_expected(const struct splice_row *row)
     lend8(&stretch, row->stretch);
     blentovar_kept_answer answer =
         blentovar_splice(handed_in(&row->record), row->start, stretch.places, stretch.length);
-    const struct record_text *expected = row->done != NULL ? row->done : &row->record;
-    return is_answer(&answer, row->number, expected) && as_expected8(&stretch);
+    const struct record_text *record = row->done != NULL ? row->done : &row->record;
+    blentovar_kept_answer expected = {row->number, row->buffer, row->place, record_of(record)};
+    return SAME_BYTES(answer, expected) && as_expected8(&stretch);
 }
 
 struct decode_row {
@@ -207,9 +211,9 @@ static int decode_as_expected(const struct decode_row *row)
         expect8(&word, row->done_word);
         expect16(&list, row->done_list);
     }
-    blentovar_decode_answer answer = blentovar_decode_kept(
+    blentovar_decode_kept_answer answer = blentovar_decode_kept(
         handed_in(&row->record), word.places, word.length, list.places, list.length);
-    blentovar_decode_answer expected = {row->number, 0, row->wrong};
+    blentovar_decode_kept_answer expected = {row->number, 0, row->wrong};
     return SAME_BYTES(answer, expected) && as_expected8(&word) && as_expected16(&list);
 }
 

@@ -17,10 +17,21 @@ static_assert(offsetof(blentovar_describe_answer, n) == 8, "n");
 static_assert(offsetof(blentovar_describe_answer, k) == 16, "k");
 static_assert(sizeof(blentovar_describe_answer) == 24, "describe_answer");
 
+static_assert(offsetof(blentovar_encode_answer, number) == 0, "number");
+static_assert(offsetof(blentovar_encode_answer, buffer) == 4, "buffer");
+static_assert(offsetof(blentovar_encode_answer, place) == 8, "place");
+static_assert(sizeof(blentovar_encode_answer) == 16, "encode_answer");
+
 static_assert(offsetof(blentovar_decode_answer, number) == 0, "number");
-static_assert(offsetof(blentovar_decode_answer, zero_after_number) == 4, "zero_after_number");
-static_assert(offsetof(blentovar_decode_answer, wrong) == 8, "wrong");
-static_assert(sizeof(blentovar_decode_answer) == 16, "decode_answer");
+static_assert(offsetof(blentovar_decode_answer, buffer) == 4, "buffer");
+static_assert(offsetof(blentovar_decode_answer, place) == 8, "place");
+static_assert(offsetof(blentovar_decode_answer, wrong) == 16, "wrong");
+static_assert(sizeof(blentovar_decode_answer) == 24, "decode_answer");
+
+static_assert(offsetof(blentovar_edit_answer, number) == 0, "number");
+static_assert(offsetof(blentovar_edit_answer, buffer) == 4, "buffer");
+static_assert(offsetof(blentovar_edit_answer, place) == 8, "place");
+static_assert(sizeof(blentovar_edit_answer) == 16, "edit_answer");
 
 static_assert(offsetof(blentovar_kept, m) == 0, "m");
 static_assert(offsetof(blentovar_kept, t) == 8, "t");
@@ -31,9 +42,15 @@ static_assert(offsetof(blentovar_kept, zero_after_sums) == 1550, "zero_after_sum
 static_assert(sizeof(blentovar_kept) == 1552, "kept");
 
 static_assert(offsetof(blentovar_kept_answer, number) == 0, "number");
-static_assert(offsetof(blentovar_kept_answer, zero_after_number) == 4, "zero_after_number");
-static_assert(offsetof(blentovar_kept_answer, record) == 8, "record");
-static_assert(sizeof(blentovar_kept_answer) == 1560, "kept_answer");
+static_assert(offsetof(blentovar_kept_answer, buffer) == 4, "buffer");
+static_assert(offsetof(blentovar_kept_answer, place) == 8, "place");
+static_assert(offsetof(blentovar_kept_answer, record) == 16, "record");
+static_assert(sizeof(blentovar_kept_answer) == 1568, "kept_answer");
+
+static_assert(offsetof(blentovar_decode_kept_answer, number) == 0, "number");
+static_assert(offsetof(blentovar_decode_kept_answer, zero_after_number) == 4, "zero_after_number");
+static_assert(offsetof(blentovar_decode_kept_answer, wrong) == 8, "wrong");
+static_assert(sizeof(blentovar_decode_kept_answer) == 16, "decode_kept_answer");
 
 static_assert(offsetof(blentovar_read_answer, number) == 0, "number");
 static_assert(offsetof(blentovar_read_answer, house) == 4, "house");

@@ -131,41 +131,45 @@ static int largest_as_expected(void)
     return SAME_BYTES(answer, expected) && as_expected8(&generator);
 }
 
+/* From here on a row also has the buffer and the place that come with 5, and zeros where another number stands. */
 struct encode_row {
     size_t m, t;
     const char *message, *word;
-    uint32_t number;
+    uint32_t number, buffer;
+    size_t place;
     const char *done;
 };
 
 static const struct encode_row encode_rows[] = {
-    {4, 1, "1 0*10", "7*15", 0, "1*2 0*2 1 0*10"},
-    {4, 2, "1 0*6", "7*15", 0, "1 0*3 1 0 1*3 0*6"},
-    {4, 3, "1 0 1 0 1", "7*15", 0, SENT},
-    {4, 3, "1*5", "255*15", 0, "1*15"},
-    {4, 3, "0*5", "7*15", 0, "0*15"},
-    {10, 255, "1*11", "7*1023", 0, "1*1023"},
-    {2, 1, "1*1", "7*3", 1, NULL},
-    {11, 1, "0*1036", "7*1039", 1, NULL},
-    {4, 0, "1*15", "7*15", 2, NULL},
-    {10, 256, "1*11", "7*1023", 2, NULL},
-    {4, 3, "1*4", "7*15", 3, NULL},
-    {4, 3, "1*6", "7*15", 3, NULL},
-    {4, 3, "", "7*15", 3, NULL},
-    {4, 3, NULL, "7*15", 3, NULL},
-    {4, 3, "1*5", "7*14", 4, NULL},
-    {4, 3, "1*5", "7*16", 4, NULL},
-    {4, 3, "1*5", "", 4, NULL},
-    {4, 3, "1*5", NULL, 4, NULL},
-    {4, 3, "2 1*4", "7*15", 5, NULL},
-    {4, 3, "1*4 255", "7*15", 5, NULL},
-    {10, 255, "1*10 2", "7*1023", 5, NULL},
+    {4, 1, "1 0*10", "7*15", 0, 0, 0, "1*2 0*2 1 0*10"},
+    {4, 2, "1 0*6", "7*15", 0, 0, 0, "1 0*3 1 0 1*3 0*6"},
+    {4, 3, "1 0 1 0 1", "7*15", 0, 0, 0, SENT},
+    {4, 3, "1*5", "255*15", 0, 0, 0, "1*15"},
+    {4, 3, "0*5", "7*15", 0, 0, 0, "0*15"},
+    {10, 255, "1*11", "7*1023", 0, 0, 0, "1*1023"},
+    {2, 1, "1*1", "7*3", 1, 0, 0, NULL},
+    {11, 1, "0*1036", "7*1039", 1, 0, 0, NULL},
+    {4, 0, "1*15", "7*15", 2, 0, 0, NULL},
+    {10, 256, "1*11", "7*1023", 2, 0, 0, NULL},
+    {4, 3, "1*4", "7*15", 3, 0, 0, NULL},
+    {4, 3, "1*6", "7*15", 3, 0, 0, NULL},
+    {4, 3, "", "7*15", 3, 0, 0, NULL},
+    {4, 3, NULL, "7*15", 3, 0, 0, NULL},
+    {4, 3, "1*5", "7*14", 4, 0, 0, NULL},
+    {4, 3, "1*5", "7*16", 4, 0, 0, NULL},
+    {4, 3, "1*5", "", 4, 0, 0, NULL},
+    {4, 3, "1*5", NULL, 4, 0, 0, NULL},
+    {4, 3, "2 1*4", "7*15", 5, 0, 0, NULL},
+    {4, 3, "1*4 255", "7*15", 5, 0, 4, NULL},
+    {10, 255, "1*10 2", "7*1023", 5, 0, 10, NULL},
+    {4, 3, "1 2 1 3 255", "7*15", 5, 0, 1, NULL},
+    {10, 1, "0*1012 2", "7*1023", 5, 0, 1012, NULL},
     /* two faults */
-    {2, 0, "1*5", "7*15", 1, NULL},
-    {4, 4, "1*6", "7*15", 2, NULL},
-    {4, 3, "1*4", "7*14", 3, NULL},
-    {4, 3, "1*4 2", "7*16", 4, NULL},
-    {4, 3, NULL, NULL, 3, NULL},
+    {2, 0, "1*5", "7*15", 1, 0, 0, NULL},
+    {4, 4, "1*6", "7*15", 2, 0, 0, NULL},
+    {4, 3, "1*4", "7*14", 3, 0, 0, NULL},
+    {4, 3, "1*4 2", "7*16", 4, 0, 0, NULL},
+    {4, 3, NULL, NULL, 3, 0, 0, NULL},
 };
 
 static int encode_as_expected(const struct encode_row *row)
@@ -176,55 +180,58 @@ static int encode_as_expected(const struct encode_row *row)
     if (row->done != NULL) {
         expect8(&word, row->done);
     }
-    uint32_t number = blentovar_encode(row->m, row->t, message.places, message.length,
-                                       word.places, word.length);
-    return number == row->number && as_expected8(&message) && as_expected8(&word);
+    blentovar_encode_answer answer = blentovar_encode(row->m, row->t, message.places, message.length,
+                                                      word.places, word.length);
+    blentovar_encode_answer expected = {row->number, row->buffer, row->place};
+    return SAME_BYTES(answer, expected) && as_expected8(&message) && as_expected8(&word);
 }
 
 struct decode_row {
     size_t m, t;
     const char *received, *word, *list;
-    uint32_t number;
-    size_t wrong;
+    uint32_t number, buffer;
+    size_t place, wrong;
     const char *done_word, *done_list;
 };
 
 static const struct decode_row decode_rows[] = {
-    {4, 3, SENT, "7*15", "7*3", 0, 0, SENT, "0*3"},
-    {4, 3, "0 1*2 0*3 1 0*3 1 0 1 0*2", "7*15", "7*3", 0, 3, SENT, "0 9 14"},
-    {4, 3, "1*3 0 1 0*10", "7*15", "65535*3", 0, 3, GENERATOR " 0*4", "5 8 10"},
-    {4, 1, "1*2 0*13", "7*15", "7*1", 0, 1, "1*2 0*2 1 0*10", "4"},
-    {3, 1, "1*2 0*5", "7*7", "7*1", 0, 1, "1*2 0 1 0*3", "3"},
-    {4, 2, "1 0*3 1 0 1 0*8", "7*15", "7*2", 0, 2, "1 0*3 1 0 1*3 0*6", "7 8"},
-    {4, 2, "0*3 1 0*11", "7*15", "7*2", 0, 1, "0*15", "3 0"},
-    {10, 255, "0 1*499 0 1*521 0", "7*1023", "7*255", 0, 3, "1*1023", "0 500 1022 0*252"},
-    {4, 3, FAR, "7*15", "7*3", 6, 0, NULL, NULL},
-    {2, 1, "0*3", "7*3", "7*1", 1, 0, NULL, NULL},
-    {LARGEST, 3, SENT, "7*15", "7*3", 1, 0, NULL, NULL},
-    {7, 8, "0*127", "7*127", "7*8", 2, 0, NULL, NULL},
-    {4, 3, "0*14", "7*15", "7*3", 3, 0, NULL, NULL},
-    {4, 3, "0*16", "7*15", "7*3", 3, 0, NULL, NULL},
-    {4, 3, "", "7*15", "7*3", 3, 0, NULL, NULL},
-    {4, 3, NULL, "7*15", "7*3", 3, 0, NULL, NULL},
-    {4, 3, SENT, "7*14", "7*3", 4, 0, NULL, NULL},
-    {4, 3, SENT, "7*16", "7*3", 4, 0, NULL, NULL},
-    {4, 3, SENT, "", "7*3", 4, 0, NULL, NULL},
-    {4, 3, SENT, NULL, "7*3", 4, 0, NULL, NULL},
-    {4, 3, SENT, "7*15", "7*2", 4, 0, NULL, NULL},
-    {4, 3, SENT, "7*15", "7*4", 4, 0, NULL, NULL},
-    {4, 3, SENT, "7*15", "", 4, 0, NULL, NULL},
-    {4, 3, SENT, "7*15", NULL, 4, 0, NULL, NULL},
-    {4, 3, "2 0*14", "7*15", "7*3", 5, 0, NULL, NULL},
-    {4, 3, "0*14 255", "7*15", "7*3", 5, 0, NULL, NULL},
+    {4, 3, SENT, "7*15", "7*3", 0, 0, 0, 0, SENT, "0*3"},
+    {4, 3, "0 1*2 0*3 1 0*3 1 0 1 0*2", "7*15", "7*3", 0, 0, 0, 3, SENT, "0 9 14"},
+    {4, 3, "1*3 0 1 0*10", "7*15", "65535*3", 0, 0, 0, 3, GENERATOR " 0*4", "5 8 10"},
+    {4, 1, "1*2 0*13", "7*15", "7*1", 0, 0, 0, 1, "1*2 0*2 1 0*10", "4"},
+    {3, 1, "1*2 0*5", "7*7", "7*1", 0, 0, 0, 1, "1*2 0 1 0*3", "3"},
+    {4, 2, "1 0*3 1 0 1 0*8", "7*15", "7*2", 0, 0, 0, 2, "1 0*3 1 0 1*3 0*6", "7 8"},
+    {4, 2, "0*3 1 0*11", "7*15", "7*2", 0, 0, 0, 1, "0*15", "3 0"},
+    {10, 255, "0 1*499 0 1*521 0", "7*1023", "7*255", 0, 0, 0, 3, "1*1023", "0 500 1022 0*252"},
+    {4, 3, FAR, "7*15", "7*3", 6, 0, 0, 0, NULL, NULL},
+    {2, 1, "0*3", "7*3", "7*1", 1, 0, 0, 0, NULL, NULL},
+    {LARGEST, 3, SENT, "7*15", "7*3", 1, 0, 0, 0, NULL, NULL},
+    {7, 8, "0*127", "7*127", "7*8", 2, 0, 0, 0, NULL, NULL},
+    {4, 3, "0*14", "7*15", "7*3", 3, 0, 0, 0, NULL, NULL},
+    {4, 3, "0*16", "7*15", "7*3", 3, 0, 0, 0, NULL, NULL},
+    {4, 3, "", "7*15", "7*3", 3, 0, 0, 0, NULL, NULL},
+    {4, 3, NULL, "7*15", "7*3", 3, 0, 0, 0, NULL, NULL},
+    {4, 3, SENT, "7*14", "7*3", 4, 0, 0, 0, NULL, NULL},
+    {4, 3, SENT, "7*16", "7*3", 4, 0, 0, 0, NULL, NULL},
+    {4, 3, SENT, "", "7*3", 4, 0, 0, 0, NULL, NULL},
+    {4, 3, SENT, NULL, "7*3", 4, 0, 0, 0, NULL, NULL},
+    {4, 3, SENT, "7*15", "7*2", 4, 0, 0, 0, NULL, NULL},
+    {4, 3, SENT, "7*15", "7*4", 4, 0, 0, 0, NULL, NULL},
+    {4, 3, SENT, "7*15", "", 4, 0, 0, 0, NULL, NULL},
+    {4, 3, SENT, "7*15", NULL, 4, 0, 0, 0, NULL, NULL},
+    {4, 3, "2 0*14", "7*15", "7*3", 5, 0, 0, 0, NULL, NULL},
+    {4, 3, "0*14 255", "7*15", "7*3", 5, 0, 14, 0, NULL, NULL},
+    {4, 3, "1*7 2 1 3 1*5", "7*15", "7*3", 5, 0, 7, 0, NULL, NULL},
+    {10, 255, "0*1022 2", "7*1023", "7*255", 5, 0, 1022, 0, NULL, NULL},
     /* two faults */
-    {2, 0, SENT, "7*15", "7*3", 1, 0, NULL, NULL},
-    {4, 4, "0*14", "7*15", "7*4", 2, 0, NULL, NULL},
-    {4, 3, "0*14", "7*14", "7*3", 3, 0, NULL, NULL},
-    {4, 3, "0*16", "7*15", "7*4", 3, 0, NULL, NULL},
-    {4, 3, "0*14 2", "7*14", "7*3", 4, 0, NULL, NULL},
-    {4, 3, "0*14 2", "7*15", "7*4", 4, 0, NULL, NULL},
-    {4, 3, "1*4 0*10 2", "7*15", "7*3", 5, 0, NULL, NULL},
-    {4, 3, NULL, NULL, NULL, 3, 0, NULL, NULL},
+    {2, 0, SENT, "7*15", "7*3", 1, 0, 0, 0, NULL, NULL},
+    {4, 4, "0*14", "7*15", "7*4", 2, 0, 0, 0, NULL, NULL},
+    {4, 3, "0*14", "7*14", "7*3", 3, 0, 0, 0, NULL, NULL},
+    {4, 3, "0*16", "7*15", "7*4", 3, 0, 0, 0, NULL, NULL},
+    {4, 3, "0*14 2", "7*14", "7*3", 4, 0, 0, 0, NULL, NULL},
+    {4, 3, "0*14 2", "7*15", "7*4", 4, 0, 0, 0, NULL, NULL},
+    {4, 3, "1*4 0*10 2", "7*15", "7*3", 5, 0, 14, 0, NULL, NULL},
+    {4, 3, NULL, NULL, NULL, 3, 0, 0, 0, NULL, NULL},
 };
 
 static int decode_as_expected(const struct decode_row *row)
@@ -241,7 +248,7 @@ static int decode_as_expected(const struct decode_row *row)
     blentovar_decode_answer answer =
         blentovar_decode(row->m, row->t, received.places, received.length,
                          word.places, word.length, list.places, list.length);
-    blentovar_decode_answer expected = {row->number, 0, row->wrong};
+    blentovar_decode_answer expected = {row->number, row->buffer, row->place, row->wrong};
     return SAME_BYTES(answer, expected)
         && as_expected8(&received) && as_expected8(&word) && as_expected16(&list);
 }
@@ -251,46 +258,53 @@ struct edit_row {
     const char *word;
     size_t start;
     const char *stretch;
-    uint32_t number;
+    uint32_t number, buffer;
+    size_t place;
     const char *done;
 };
 
 static const struct edit_row edit_rows[] = {
-    {4, 3, "0*15", 0, "1 0 1 0 1", 0, SENT},
-    {4, 3, SENT, 0, "0*5", 0, "0*15"},
+    {4, 3, "0*15", 0, "1 0 1 0 1", 0, 0, 0, SENT},
+    {4, 3, SENT, 0, "0*5", 0, 0, 0, "0*15"},
     /* the generator, one place up, is added */
-    {4, 3, SENT, 1, "1", 0, "1 0*2 1 0 1 0*4 1*3 0 1"},
+    {4, 3, SENT, 1, "1", 0, 0, 0, "1 0*2 1 0 1 0*4 1*3 0 1"},
     /* no code word: the generator is added to {14} */
-    {4, 3, "0*14 1", 0, "1", 0, GENERATOR " 0*3 1"},
-    {4, 3, SENT, 5, "", 0, SENT},
-    {4, 3, SENT, 0, NULL, 0, SENT},
-    {10, 255, "0*1023", 0, "1*11", 0, "1*1023"},
-    {2, 1, "0*3", 0, "1", 1, NULL},
-    {11, 1, "0*1039", 0, "1", 1, NULL},
-    {4, 4, "0*15", 0, "1", 2, NULL},
-    {4, 3, "0*14", 0, "1", 3, NULL},
-    {4, 3, "0*16", 0, "1", 3, NULL},
-    {4, 3, "", 0, "1", 3, NULL},
-    {4, 3, NULL, 0, "1", 3, NULL},
-    {4, 3, SENT, 5, "1", 12, NULL},
-    {4, 3, SENT, 0, "1*6", 12, NULL},
-    {4, 3, SENT, 6, "", 12, NULL},
-    {4, 3, SENT, 6, NULL, 12, NULL},
-    {4, 3, SENT, LARGEST, "1", 12, NULL},
-    {4, 3, SENT, LARGEST, "1 0", 12, NULL},
-    {4, 3, SENT, LARGEST, NULL, 12, NULL},
-    {4, 3, "2 0*14", 0, "1", 5, NULL},
-    {4, 3, "0*7 2 0*7", 0, "", 5, NULL},
-    {4, 3, "0*14 255", 0, "1", 5, NULL},
-    {4, 3, SENT, 0, "1*4 2", 5, NULL},
+    {4, 3, "0*14 1", 0, "1", 0, 0, 0, GENERATOR " 0*3 1"},
+    {4, 3, SENT, 5, "", 0, 0, 0, SENT},
+    {4, 3, SENT, 0, NULL, 0, 0, 0, SENT},
+    {10, 255, "0*1023", 0, "1*11", 0, 0, 0, "1*1023"},
+    {2, 1, "0*3", 0, "1", 1, 0, 0, NULL},
+    {11, 1, "0*1039", 0, "1", 1, 0, 0, NULL},
+    {4, 4, "0*15", 0, "1", 2, 0, 0, NULL},
+    {4, 3, "0*14", 0, "1", 3, 0, 0, NULL},
+    {4, 3, "0*16", 0, "1", 3, 0, 0, NULL},
+    {4, 3, "", 0, "1", 3, 0, 0, NULL},
+    {4, 3, NULL, 0, "1", 3, 0, 0, NULL},
+    {4, 3, SENT, 5, "1", 12, 0, 0, NULL},
+    {4, 3, SENT, 0, "1*6", 12, 0, 0, NULL},
+    {4, 3, SENT, 6, "", 12, 0, 0, NULL},
+    {4, 3, SENT, 6, NULL, 12, 0, 0, NULL},
+    {4, 3, SENT, LARGEST, "1", 12, 0, 0, NULL},
+    {4, 3, SENT, LARGEST, "1 0", 12, 0, 0, NULL},
+    {4, 3, SENT, LARGEST, NULL, 12, 0, 0, NULL},
+    {4, 3, "2 0*14", 0, "1", 5, 0, 0, NULL},
+    {4, 3, "0*7 2 0*7", 0, "", 5, 0, 7, NULL},
+    {4, 3, "0*14 255", 0, "1", 5, 0, 14, NULL},
+    {4, 3, SENT, 0, "1*4 2", 5, 1, 4, NULL},
+    {4, 3, SENT, 0, "1 3", 5, 1, 1, NULL},
+    /* the place is counted in the stretch, not in the message */
+    {4, 3, SENT, 2, "0 2 2", 5, 1, 1, NULL},
+    /* the whole word is looked at before the stretch */
+    {4, 3, "0*7 2 0*7", 0, "3", 5, 0, 7, NULL},
+    {4, 3, "0*14 2", 0, "2", 5, 0, 14, NULL},
     /* two faults */
-    {2, 0, "0*15", 0, "1", 1, NULL},
-    {4, 4, "0*14", 0, "1", 2, NULL},
-    {4, 3, "0*14", 5, "1", 3, NULL},
-    {4, 3, "0*14 2", 5, "1", 12, NULL},
-    {4, 3, SENT, 5, "2", 12, NULL},
-    {4, 3, SENT, LARGEST, "2", 12, NULL},
-    {4, 3, NULL, 0, NULL, 3, NULL},
+    {2, 0, "0*15", 0, "1", 1, 0, 0, NULL},
+    {4, 4, "0*14", 0, "1", 2, 0, 0, NULL},
+    {4, 3, "0*14", 5, "1", 3, 0, 0, NULL},
+    {4, 3, "0*14 2", 5, "1", 12, 0, 0, NULL},
+    {4, 3, SENT, 5, "2", 12, 0, 0, NULL},
+    {4, 3, SENT, LARGEST, "2", 12, 0, 0, NULL},
+    {4, 3, NULL, 0, NULL, 3, 0, 0, NULL},
 };
 
 static int edit_as_expected(const struct edit_row *row)
@@ -301,9 +315,10 @@ static int edit_as_expected(const struct edit_row *row)
     if (row->done != NULL) {
         expect8(&word, row->done);
     }
-    uint32_t number = blentovar_edit(row->m, row->t, word.places, word.length, row->start,
-                                     stretch.places, stretch.length);
-    return number == row->number && as_expected8(&word) && as_expected8(&stretch);
+    blentovar_edit_answer answer = blentovar_edit(row->m, row->t, word.places, word.length, row->start,
+                                                  stretch.places, stretch.length);
+    blentovar_edit_answer expected = {row->number, row->buffer, row->place};
+    return SAME_BYTES(answer, expected) && as_expected8(&word) && as_expected8(&stretch);
 }
 
 static void check_sizes(void)

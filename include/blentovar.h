@@ -12,9 +12,17 @@
  *
  * Every function answers a number of the sheet below: BLENTOVAR_DONE, or the
  * number of the first check in its order that refuses. After a refusal no lent
- * buffer has changed, and every number beside the refusal is 0. Nothing is kept
- * between calls, nothing is allocated, and there is no state: calls may run at
- * the same time.
+ * buffer has changed, and every number beside the refusal is 0, but for buffer
+ * and place, which go with BLENTOVAR_BIT_ABOVE_ONE. Nothing is kept between
+ * calls, nothing is allocated, and there is no state: calls may run at the same
+ * time.
+ *
+ * The functions that look at lent bits answer which one is bad. With
+ * BLENTOVAR_BIT_ABOVE_ONE, buffer says where it stands: 1 is the stretch of
+ * blentovar_edit, and 0 is the word, or the only buffer whose bits are looked
+ * at, so also the stretch of blentovar_splice. place is the first one in that
+ * buffer, as it was lent, that holds more than 1. With every other number,
+ * BLENTOVAR_DONE included, both are 0.
  *
  * The structs have no padding. Where a compiler would put some, there is a field
  * whose name begins with zero_: it is 0 in everything that comes back, and it is
@@ -33,8 +41,8 @@ extern "C" {
 /* The version of this header and of the library that goes with it, and the
  * same as one number: 10,000 times the first part, 100 times the second, and
  * the third. */
-#define BLENTOVAR_VERSION "0.3.0"
-#define BLENTOVAR_VERSION_NUMBER 300
+#define BLENTOVAR_VERSION "0.4.0"
+#define BLENTOVAR_VERSION_NUMBER 400
 
 /* The sheet. */
 enum {
@@ -47,7 +55,8 @@ enum {
     BLENTOVAR_INPUT_LENGTH = 3,
     /* an output buffer has the wrong length */
     BLENTOVAR_OUTPUT_LENGTH = 4,
-    /* a bit of a lent message, word or stretch is above 1 */
+    /* a bit of a lent message, word or stretch is above 1; buffer and place say
+     * which */
     BLENTOVAR_BIT_ABOVE_ONE = 5,
     /* no code word within t; for a kept record, no set of places with its sums */
     BLENTOVAR_NOTHING_NEAR = 6,
@@ -63,6 +72,12 @@ enum {
     BLENTOVAR_LEAD_BITS = 11,
     /* a stretch runs past the end: k for edit, n for splice */
     BLENTOVAR_STRETCH_END = 12
+};
+
+/* The buffer that goes with BLENTOVAR_BIT_ABOVE_ONE. */
+enum {
+    BLENTOVAR_WORD_OR_ONLY = 0,
+    BLENTOVAR_EDIT_STRETCH = 1
 };
 
 /* The sizes: bits and sums of a kept record, which are also the largest n and
@@ -87,11 +102,24 @@ typedef struct blentovar_describe_answer {
     size_t k;
 } blentovar_describe_answer;
 
+typedef struct blentovar_encode_answer {
+    uint32_t number;
+    uint32_t buffer;
+    size_t place;
+} blentovar_encode_answer;
+
 typedef struct blentovar_decode_answer {
     uint32_t number;
-    uint32_t zero_after_number;
+    uint32_t buffer;
+    size_t place;
     size_t wrong;
 } blentovar_decode_answer;
+
+typedef struct blentovar_edit_answer {
+    uint32_t number;
+    uint32_t buffer;
+    size_t place;
+} blentovar_edit_answer;
 
 /* A received word with its odd sums S_1, S_3, .. S_(2t-1). It is a plain value
  * and may be built by hand: what stands past n bits and t sums is neither
@@ -107,9 +135,16 @@ typedef struct blentovar_kept {
 
 typedef struct blentovar_kept_answer {
     uint32_t number;
-    uint32_t zero_after_number;
+    uint32_t buffer;
+    size_t place;
     blentovar_kept record;
 } blentovar_kept_answer;
+
+typedef struct blentovar_decode_kept_answer {
+    uint32_t number;
+    uint32_t zero_after_number;
+    size_t wrong;
+} blentovar_decode_kept_answer;
 
 typedef struct blentovar_read_answer {
     uint32_t number;
@@ -136,17 +171,19 @@ blentovar_describe_answer blentovar_describe(size_t m, size_t t,
  * message: k places, read. word: n places, written; parity in places 0 to
  * n-k-1, message place i in place n-k+i.
  * Checks: 1, 2, 3, 4, 5.
- * Answers the number; refused, word is as lent. */
-uint32_t blentovar_encode(size_t m, size_t t,
-                          const uint8_t *message, size_t message_places,
-                          uint8_t *word, size_t word_places);
+ * Answers the number, and with 5 the place in message; refused, word is as
+ * lent. */
+blentovar_encode_answer blentovar_encode(size_t m, size_t t,
+                                         const uint8_t *message, size_t message_places,
+                                         uint8_t *word, size_t word_places);
 
 /* The code word within t of what was received.
  * received: n places, read. word: n places, written. list: t places, written;
  * the wrong places ascending, then zeros.
  * Checks: 1, 2, 3, 4 (word, then list), 5, 6.
- * Answers the number and how many places were wrong, which tells how much of
- * list are places; refused, wrong is 0 and word and list are as lent. */
+ * Answers the number, with 5 the place in received, and how many places were
+ * wrong, which tells how much of list are places; refused, wrong is 0 and word
+ * and list are as lent. */
 blentovar_decode_answer blentovar_decode(size_t m, size_t t,
                                          const uint8_t *received, size_t received_places,
                                          uint8_t *word, size_t word_places,
@@ -157,17 +194,18 @@ blentovar_decode_answer blentovar_decode(size_t m, size_t t,
  * the code word that carries the change of the message. stretch: any length,
  * read; it ends at message place k or before, and may be empty.
  * Checks: 1, 2, 3, 12, 5 (word, then stretch).
- * Answers the number; refused, word is as lent. */
-uint32_t blentovar_edit(size_t m, size_t t,
-                        uint8_t *word, size_t word_places,
-                        size_t start,
-                        const uint8_t *stretch, size_t stretch_places);
+ * Answers the number, and with 5 the buffer and the place in word or in
+ * stretch; refused, word is as lent. */
+blentovar_edit_answer blentovar_edit(size_t m, size_t t,
+                                     uint8_t *word, size_t word_places,
+                                     size_t start,
+                                     const uint8_t *stretch, size_t stretch_places);
 
 /* A record of a received word.
  * word: n places, read.
  * Checks: 1, 2, 3, 5.
- * Answers the number and the record, zeros past n bits and past t sums;
- * refused, the record is all zeros, m and t too. */
+ * Answers the number, with 5 the place in word, and the record, zeros past n
+ * bits and past t sums; refused, the record is all zeros, m and t too. */
 blentovar_kept_answer blentovar_open(size_t m, size_t t,
                                      const uint8_t *word, size_t word_places);
 
@@ -175,7 +213,8 @@ blentovar_kept_answer blentovar_open(size_t m, size_t t,
  * the places that changed to the first t stored ones.
  * stretch: any length, read; it ends at place n or before, and may be empty.
  * Checks: 1, 2, 7, 12, 5.
- * Answers the number and the record; refused, it is the record that came in. */
+ * Answers the number, with 5 the place in stretch, and the record; refused, it
+ * is the record that came in. */
 blentovar_kept_answer blentovar_splice(blentovar_kept kept, size_t start,
                                        const uint8_t *stretch, size_t stretch_places);
 
@@ -185,9 +224,9 @@ blentovar_kept_answer blentovar_splice(blentovar_kept kept, size_t start,
  * Checks: 1, 2, 7, 4 (word, then list), 6.
  * Answers the number and how many places were wrong; refused, wrong is 0 and
  * word and list are as lent. */
-blentovar_decode_answer blentovar_decode_kept(blentovar_kept kept,
-                                              uint8_t *word, size_t word_places,
-                                              uint16_t *list, size_t list_places);
+blentovar_decode_kept_answer blentovar_decode_kept(blentovar_kept kept,
+                                                   uint8_t *word, size_t word_places,
+                                                   uint16_t *list, size_t list_places);
 
 /* The frame of a reading; every value of the three fields is lawful.
  * frame: 32 bytes, written.

@@ -16,17 +16,26 @@ uint32_t call_describe(const struct measured_case *c, struct input *in) {
 }
 
 uint32_t call_encode(const struct measured_case *c, struct input *in) {
-    return blentovar_encode(c->code->m, c->code->t, in->message, c->code->k, word, c->code->n);
+    return blentovar_encode(c->code->m, c->code->t, in->message, c->code->k, word, c->code->n).number;
 }
 
 uint32_t call_decode(const struct measured_case *c, struct input *in) {
     return blentovar_decode(c->code->m, c->code->t, in->received, c->code->n, word, c->code->n, list, c->code->t).number;
 }
 
+// A refusal that has looked at every place; 0 where it is refused as it must be.
+uint32_t call_decode_bad_bit(const struct measured_case *c, struct input *in) {
+    size_t last = c->code->n - 1;
+    in->received[last] = 2;
+    blentovar_decode_answer answer =
+        blentovar_decode(c->code->m, c->code->t, in->received, c->code->n, word, c->code->n, list, c->code->t);
+    return answer.number != BLENTOVAR_BIT_ABOVE_ONE || answer.place != last;
+}
+
 // The stretch is turned over first, so that the next call changes every place of it again.
 uint32_t call_edit(const struct measured_case *c, struct input *in) {
     for (size_t i = 0; i < c->places; i++) in->stretch[i] ^= 1;
-    return blentovar_edit(c->code->m, c->code->t, in->received, c->code->n, in->start, in->stretch, c->places);
+    return blentovar_edit(c->code->m, c->code->t, in->received, c->code->n, in->start, in->stretch, c->places).number;
 }
 
 uint32_t call_open(const struct measured_case *c, struct input *in) {

@@ -61,7 +61,7 @@ static void fill_input(const struct measured_case *c, struct input *in) {
     const struct code *code = c->code;
     memset(in, 0, sizeof *in);
     fill_bits(in->message, code->k);
-    expect_taken(blentovar_encode(code->m, code->t, in->message, code->k, in->received, code->n), "encoding");
+    expect_taken(blentovar_encode(code->m, code->t, in->message, code->k, in->received, code->n).number, "encoding");
     if (c->wrong == MADE_UP_BITS)
         fill_bits(in->received, code->n);
     else
@@ -117,10 +117,17 @@ static void decodes(measure *measure, const struct code *code) {
     run_case(measure, random);
 }
 
-// Sizes looks at no word and so uses none up: the other calls keep their words, and their numbers can be compared with those from before there was Sizes.
+// These two use no words up: the other calls keep theirs, and their numbers can be compared with those from before there were these two.
 static void sizes(measure *measure, const struct code *code) {
     uint64_t before = state;
     plain(measure, code, "Sizes", call_sizes);
+    state = before;
+}
+
+static void bad_bit(measure *measure, const struct code *code) {
+    uint64_t before = state;
+    struct measured_case last = {code, "Decode", call_decode_bad_bit, 0, 0, "Decode, last bit bad"};
+    run_case(measure, last);
     state = before;
 }
 
@@ -129,6 +136,7 @@ static void each_of_code(measure *measure, const struct code *code) {
     plain(measure, code, "Describe", call_describe);
     plain(measure, code, "Encode", call_encode);
     decodes(measure, code);
+    bad_bit(measure, code);
     with_stretches(measure, code, "Edit", call_edit, code->k);
     plain(measure, code, "Open", call_open);
     with_stretches(measure, code, "Splice", call_splice, code->n);

@@ -1,6 +1,7 @@
 //! A call of an operation with all that is lent to it, and what can be seen after it.
 
 use second::answers::{Answers, Mended};
+use second::sheet::{self, plain};
 use std::fmt::Debug;
 
 pub trait Call: Debug {
@@ -13,10 +14,10 @@ pub trait Call: Debug {
     fn expected(&self, answers: &mut Answers) -> Outcome;
 }
 
-/// The sheet's number, 0 where nothing is refused; the numbers that are given; every lent buffer after the call, and the bits and sums of a record that is given.
-#[derive(Debug, Default, PartialEq)]
+/// What is told: the sheet's number, 0 where nothing is refused, and the bit that 5 names; the numbers that are given; every lent buffer after the call, and the bits and sums of a record that is given.
+#[derive(Debug, PartialEq)]
 pub struct Outcome {
-    pub number: u32,
+    pub told: sheet::Refusal,
     given: Vec<u64>,
     buffers: Vec<Vec<u16>>,
 }
@@ -24,19 +25,27 @@ pub struct Outcome {
 impl Outcome {
     /// What `blentovar` answered, so far as it is a refusal or none.
     pub fn proved<T>(answer: &Result<T, blentovar::Refusal>) -> Outcome {
-        let number = |refusal: &blentovar::Refusal| refusal.number();
-        Outcome::new(answer.as_ref().err().map_or(0, number))
+        Outcome::new(match answer {
+            Ok(_) => plain(0),
+            Err(blentovar::Refusal::BitAboveOne { buffer, place }) => sheet::Refusal {
+                number: 5,
+                buffer: *buffer as usize,
+                place: *place,
+            },
+            Err(refusal) => plain(refusal.number()),
+        })
     }
 
     /// What the second program answered, so far as it is a refusal or none.
-    pub fn expected<T>(answer: &Result<T, u32>) -> Outcome {
-        Outcome::new(answer.as_ref().err().map_or(0, |number| *number))
+    pub fn expected<T>(answer: &Result<T, sheet::Refusal>) -> Outcome {
+        Outcome::new(answer.as_ref().err().map_or(plain(0), |refusal| *refusal))
     }
 
-    fn new(number: u32) -> Outcome {
+    fn new(told: sheet::Refusal) -> Outcome {
         Outcome {
-            number,
-            ..Outcome::default()
+            told,
+            given: vec![],
+            buffers: vec![],
         }
     }
 
@@ -61,7 +70,12 @@ impl Outcome {
     }
 
     /// The number of wrong places, the word, and the list with its zeros; refused, both buffers as lent.
-    pub fn mended(self, answer: &Result<Mended, u32>, word: &[u8], list: &[u16]) -> Outcome {
+    pub fn mended(
+        self,
+        answer: &Result<Mended, sheet::Refusal>,
+        word: &[u8],
+        list: &[u16],
+    ) -> Outcome {
         let Ok(Mended {
             word: mended,
             places,

@@ -215,9 +215,12 @@ impl Drawing {
         bits
     }
 
-    /// Now and then puts a number above 1 for a bit.
+    /// Now and then puts a number above 1 for a bit, or for two.
     fn spoil(&mut self, bits: &mut [u8]) {
-        if !bits.is_empty() && self.draw.one_in(FAULT) {
+        if bits.is_empty() || !self.draw.one_in(FAULT) {
+            return;
+        }
+        for _ in 0..=self.draw.below(2) {
             let place = self.draw.below(bits.len());
             let any = 2 + self.draw.below(254);
             bits[place] = self.draw.pick(&[2, any]) as u8;

@@ -32,7 +32,7 @@ fn main() {
             println!("the proved code: {proved:?}");
             std::process::exit(1);
         }
-        tally.add(call.name(), expected.number);
+        tally.add(call.name(), expected.told.number);
     }
     tally.lines().iter().for_each(|line| println!("{line}"));
     println!("differential: {count} operations, seed {seed}, nothing differs");

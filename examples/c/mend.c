@@ -1,4 +1,4 @@
-/* What a program does with Blentovar: it mends a word, reads a damaged frame, and says a refusal in words. */
+/* What a program does with Blentovar: it mends a word, reads a damaged frame, and says two refusals in words. */
 #include <inttypes.h>
 #include <stdio.h>
 #include <stdlib.h>
@@ -7,8 +7,8 @@
 #include "blentovar.h"
 
 /* Functions and structs may change with the second part of the version. */
-#if BLENTOVAR_VERSION_NUMBER < 300 || BLENTOVAR_VERSION_NUMBER >= 400
-#error "this program was written for Blentovar 0.3"
+#if BLENTOVAR_VERSION_NUMBER < 400 || BLENTOVAR_VERSION_NUMBER >= 500
+#error "this program was written for Blentovar 0.4"
 #endif
 
 /* What each number says. 8 is struck, so nothing stands there. */
@@ -62,7 +62,7 @@ static void mend_a_word(size_t m, size_t t) {
     blentovar_sizes_answer code = blentovar_sizes(m, t);
     expect(BLENTOVAR_DONE, code.number);
     printf("m %zu, t %zu: %zu places, %zu of them for the message\n", m, t, code.n, code.k);
-    expect(BLENTOVAR_DONE, blentovar_encode(m, t, message, sizeof message, sent, code.n));
+    expect(BLENTOVAR_DONE, blentovar_encode(m, t, message, sizeof message, sent, code.n).number);
     print_bits("sent", sent, code.n);
 
     memcpy(received, sent, code.n);
@@ -102,9 +102,20 @@ static void be_refused(void) {
     printf("refused %" PRIu32 ": %s\n", number, condition(number));
 }
 
+static void be_told_which_bit(void) {
+    const uint8_t stretch[] = {1, 3};
+    uint8_t word[15] = {0};
+    blentovar_edit_answer answer = blentovar_edit(4, 3, word, sizeof word, 0, stretch, sizeof stretch);
+    expect(BLENTOVAR_BIT_ABOVE_ONE, answer.number);
+    printf("refused %" PRIu32 ": %s: place %zu of buffer %" PRIu32 ", %s\n",
+           answer.number, condition(answer.number), answer.place, answer.buffer,
+           answer.buffer == BLENTOVAR_EDIT_STRETCH ? "the stretch" : "the word or the only one lent");
+}
+
 int main(void) {
     mend_a_word(4, 3);
     read_a_damaged_frame();
     be_refused();
+    be_told_which_bit();
     return 0;
 }

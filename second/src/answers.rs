@@ -1,9 +1,10 @@
-//! Each operation whole, with its refusals: the sheet's number, or what the operation gives.
+//! Each operation whole, with its refusals: what is told of a refusal, or what the operation gives.
 
 use crate::codes::Code;
 use crate::euclid::{flipped, Decoder};
 use crate::frames::{Link, Reading, FRAME_BYTES};
 use crate::kept::Kept;
+use crate::sheet::{plain, Refusal};
 use crate::{editing, kept, sheet, words};
 use std::collections::BTreeMap;
 
@@ -44,11 +45,11 @@ impl Answers {
             .or_insert_with(|| code.generator())
     }
 
-    pub fn sizes(&self, m: u64, t: u64) -> Result<Sizes, u32> {
+    pub fn sizes(&self, m: u64, t: u64) -> Result<Sizes, Refusal> {
         sheet::sizes(m, t).map(|Code { n, k, .. }| Sizes { n, k })
     }
 
-    pub fn describe(&mut self, m: u64, t: u64, places: usize) -> Result<Described, u32> {
+    pub fn describe(&mut self, m: u64, t: u64, places: usize) -> Result<Described, Refusal> {
         let code = sheet::describe(m, t, places)?;
         let generator = self.generator(&code).to_vec();
         let (n, k) = (code.n, code.k);
@@ -61,7 +62,7 @@ impl Answers {
         t: u64,
         message: &[u8],
         places: usize,
-    ) -> Result<Vec<u8>, u32> {
+    ) -> Result<Vec<u8>, Refusal> {
         let code = sheet::encode(m, t, message, places)?;
         Ok(words::with_parity(&code, self.generator(&code), message))
     }
@@ -73,9 +74,9 @@ impl Answers {
         received: &[u8],
         word_places: usize,
         list_places: usize,
-    ) -> Result<Mended, u32> {
+    ) -> Result<Mended, Refusal> {
         let code = sheet::decode(m, t, received, word_places, list_places)?;
-        let places = Decoder::new(&code).wrong_places(received).ok_or(6u32)?;
+        let places = Decoder::new(&code).wrong_places(received).ok_or(plain(6))?;
         let word = flipped(received, &places);
         Ok(Mended { word, places })
     }
@@ -87,7 +88,7 @@ impl Answers {
         word: &[u8],
         start: u64,
         stretch: &[u8],
-    ) -> Result<Vec<u8>, u32> {
+    ) -> Result<Vec<u8>, Refusal> {
         let code = sheet::edit(m, t, word, start, stretch)?;
         let generator = self.generator(&code);
         Ok(editing::edit(
@@ -99,11 +100,11 @@ impl Answers {
         ))
     }
 
-    pub fn open(&self, m: u64, t: u64, word: &[u8]) -> Result<Kept, u32> {
+    pub fn open(&self, m: u64, t: u64, word: &[u8]) -> Result<Kept, Refusal> {
         sheet::open(m, t, word).map(|code| kept::open(m, &code, word))
     }
 
-    pub fn splice(&self, record: &Kept, start: u64, stretch: &[u8]) -> Result<Kept, u32> {
+    pub fn splice(&self, record: &Kept, start: u64, stretch: &[u8]) -> Result<Kept, Refusal> {
         let code = sheet::splice(record, start, stretch)?;
         Ok(kept::splice(&code, record, start as usize, stretch))
     }
@@ -113,27 +114,27 @@ impl Answers {
         record: &Kept,
         word_places: usize,
         list_places: usize,
-    ) -> Result<Mended, u32> {
+    ) -> Result<Mended, Refusal> {
         let code = sheet::decode_kept(record, word_places, list_places)?;
-        let (word, places) = kept::decode_kept(&code, record).ok_or(6u32)?;
+        let (word, places) = kept::decode_kept(&code, record).ok_or(plain(6))?;
         Ok(Mended { word, places })
     }
 
-    pub fn make_frame(&self, reading: Reading, bytes: usize) -> Result<[u8; FRAME_BYTES], u32> {
+    pub fn make_frame(&self, reading: Reading, bytes: usize) -> Result<[u8; FRAME_BYTES], Refusal> {
         if bytes != FRAME_BYTES {
-            return Err(9);
+            return Err(plain(9));
         }
         Ok(self.link.make(reading))
     }
 
-    pub fn read_frame(&self, frame: &[u8]) -> Result<(Reading, usize), u32> {
-        self.link.read(frame)
+    pub fn read_frame(&self, frame: &[u8]) -> Result<(Reading, usize), Refusal> {
+        self.link.read(frame).map_err(plain)
     }
 }
 
 #[cfg(test)]
 mod tests {
-    use super::{Answers, Mended, Sizes};
+    use super::{plain, Answers, Mended, Refusal, Sizes};
 
     #[test]
     fn sizes_known_by_hand() {
@@ -147,11 +148,11 @@ mod tests {
     fn sizes_refused_in_order() {
         let answers = Answers::default();
         for (m, t) in [(2, 1), (11, 1), (2, 0), (u64::MAX, u64::MAX)] {
-            assert_eq!(answers.sizes(m, t), Err(1), "m {m}, t {t}");
+            assert_eq!(answers.sizes(m, t), Err(plain(1)), "m {m}, t {t}");
         }
         let unlisted = [(4, 0), (4, 4), (7, 8), (10, 256), (3, 3), (4, 7)];
         for (m, t) in unlisted.into_iter().chain([(10, u64::MAX)]) {
-            assert_eq!(answers.sizes(m, t), Err(2), "m {m}, t {t}");
+            assert_eq!(answers.sizes(m, t), Err(plain(2)), "m {m}, t {t}");
         }
     }
 
@@ -162,14 +163,39 @@ mod tests {
         let message = [1, 0, 1, 0, 1];
         assert_eq!(answers.encode(4, 3, &message, 15), Ok(third.clone()));
         assert_eq!(answers.edit(4, 3, &[0; 15], 0, &message), Ok(third.clone()));
-        assert_eq!(answers.edit(4, 3, &third, u64::MAX, &[1]), Err(12));
+        assert_eq!(answers.edit(4, 3, &third, u64::MAX, &[1]), Err(plain(12)));
         let mended = Mended {
             word: vec![1, 1, 0, 1, 0, 0, 0],
             places: vec![3],
         };
         let received = [1, 1, 0, 0, 0, 0, 0];
         assert_eq!(answers.decode(3, 1, &received, 7, 1), Ok(mended));
-        assert_eq!(answers.decode(3, 1, &received, 7, 2), Err(4));
+        assert_eq!(answers.decode(3, 1, &received, 7, 2), Err(plain(4)));
+    }
+
+    /// What is told of a bit above 1.
+    fn bad_bit(buffer: usize, place: usize) -> Refusal {
+        Refusal {
+            number: 5,
+            buffer,
+            place,
+        }
+    }
+
+    #[test]
+    fn the_first_bad_bit_is_told() {
+        let mut answers = Answers::default();
+        let record = answers.open(4, 3, &[0; 15]).expect("zeros are taken");
+        assert_eq!(answers.splice(&record, 10, &[1, 0, 2]), Err(bad_bit(0, 2)));
+        let mut word = [0; 15];
+        assert_eq!(answers.edit(4, 3, &word, 0, &[1, 3]), Err(bad_bit(1, 1)));
+        (word[7], word[9]) = (2, 255);
+        assert_eq!(answers.edit(4, 3, &word, 0, &[3]), Err(bad_bit(0, 7)));
+        assert_eq!(answers.open(4, 3, &word), Err(bad_bit(0, 7)));
+        assert_eq!(answers.decode(4, 3, &word, 15, 3), Err(bad_bit(0, 7)));
+        assert_eq!(answers.decode(4, 3, &word, 15, 4), Err(plain(4)));
+        let message = [1, 0, 1, 1, 2];
+        assert_eq!(answers.encode(4, 3, &message, 15), Err(bad_bit(0, 4)));
     }
 
     #[test]

@@ -3,6 +3,7 @@
 use crate::answers::{Answers, Mended, Sizes};
 use crate::frames::Reading;
 use crate::kept::Kept;
+use crate::sheet::{plain, Refusal};
 
 /// What there is room for: bytes of a text, numbers of a line, places of a word and of a list.
 const TEXT_ROOM: usize = 262_144;
@@ -104,7 +105,7 @@ impl Bench {
     fn sizes(&self, m: u64, t: u64) -> String {
         match self.answers.sizes(m, t) {
             Ok(Sizes { n, k }) => format!("0 {n} {k}"),
-            Err(number) => format!("{number} 0 0"),
+            Err(refusal) => format!("{} 0 0", refusal.number),
         }
     }
 
@@ -114,44 +115,46 @@ impl Bench {
                 let generator = shown(&code.generator);
                 format!("0 {} {} generator{generator}", code.n, code.k)
             }
-            Err(number) => format!("{number} 0 0 generator kept"),
+            Err(refusal) => format!("{} 0 0 generator kept", refusal.number),
         }
     }
 
     fn encode(&mut self, m: u64, t: u64, places: usize) -> String {
         let word = self.answers.encode(m, t, &self.word, places);
-        format!("{} word{}", number_of(&word), lent(word.ok()))
+        format!("{} word{}", told(&word), lent(word.ok()))
     }
 
     fn decode(&self, m: u64, t: u64, places: usize, listing: usize) -> String {
-        decoded(self.answers.decode(m, t, &self.word, places, listing))
+        let found = self.answers.decode(m, t, &self.word, places, listing);
+        decoded(told(&found), found)
     }
 
     fn edit(&mut self, m: u64, t: u64, start: u64) -> String {
         let word = self.answers.edit(m, t, &self.word, start, &self.stretch);
-        let number = number_of(&word);
+        let told = told(&word);
         let changed = word.ok().filter(|word| *word != self.word);
-        format!("{number} word{}", lent(changed))
+        format!("{told} word{}", lent(changed))
     }
 
     fn open(&mut self, m: u64, t: u64) -> String {
         let opened = self.answers.open(m, t, &self.word);
-        let number = number_of(&opened);
+        let told = told(&opened);
         self.record = opened.unwrap_or(Kept::zeros());
-        record(number, &self.record)
+        record(told, &self.record)
     }
 
     fn splice(&mut self, start: u64) -> String {
         let spliced = self.answers.splice(&self.record, start, &self.stretch);
-        let number = number_of(&spliced);
+        let told = told(&spliced);
         if let Ok(spliced) = spliced {
             self.record = spliced;
         }
-        record(number, &self.record)
+        record(told, &self.record)
     }
 
     fn decode_kept(&self, places: usize, listing: usize) -> String {
-        decoded(self.answers.decode_kept(&self.record, places, listing))
+        let found = self.answers.decode_kept(&self.record, places, listing);
+        decoded(number_of(&found).to_string(), found)
     }
 
     fn make(&self, reading: Reading, places: usize) -> String {
@@ -170,7 +173,7 @@ impl Bench {
                 } = reading;
                 format!("0 {house} {poll} {counter} {wrong}")
             }
-            Err(number) => format!("{number} 0 0 0 0"),
+            Err(refusal) => format!("{} 0 0 0 0", refusal.number),
         }
     }
 }
@@ -222,26 +225,34 @@ fn list_room(places: u64) -> Option<usize> {
     places.try_into().ok().filter(|n| *n <= LIST_ROOM)
 }
 
-/// The mended word and its wrong places; the zeros at the end of the list do not show.
-fn decoded(found: Result<Mended, u32>) -> String {
-    match found {
-        Ok(Mended { word, places }) => {
-            let list: Vec<u16> = places.iter().map(|place| *place as u16).collect();
-            let count = places.len();
-            format!("0 {count} word{} list{}", shown(&word), shown(&list))
-        }
-        Err(number) => format!("{number} 0 word kept list kept"),
-    }
+/// What was told, the mended word and its wrong places; the zeros at the end of the list do not show.
+fn decoded(told: String, found: Result<Mended, Refusal>) -> String {
+    let Ok(Mended { word, places }) = found else {
+        return format!("{told} 0 word kept list kept");
+    };
+    let list: Vec<u16> = places.iter().map(|place| *place as u16).collect();
+    let count = places.len();
+    format!("{told} {count} word{} list{}", shown(&word), shown(&list))
 }
 
-fn record(number: u32, record: &Kept) -> String {
+fn record(told: String, record: &Kept) -> String {
     let Kept { m, t, bits, sums } = record;
-    format!("{number} {m} {t} bits{} sums{}", shown(bits), shown(sums))
+    format!("{told} {m} {t} bits{} sums{}", shown(bits), shown(sums))
 }
 
 /// The sheet's number, 0 where nothing is refused.
-fn number_of<T>(answer: &Result<T, u32>) -> u32 {
-    answer.as_ref().err().copied().unwrap_or(0)
+fn number_of<T>(answer: &Result<T, Refusal>) -> u32 {
+    answer.as_ref().err().map_or(0, |refusal| refusal.number)
+}
+
+/// The sheet's number, the buffer and the place, zeros where nothing is refused.
+fn told<T>(answer: &Result<T, Refusal>) -> String {
+    let Refusal {
+        number,
+        buffer,
+        place,
+    } = answer.as_ref().err().copied().unwrap_or(plain(0));
+    format!("{number} {buffer} {place}")
 }
 
 /// What a buffer holds after a call, if it does not hold what it did before.
@@ -265,7 +276,15 @@ mod tests {
     #[test]
     fn calls_checked_by_hand() {
         let commands = "# a comment\n\nword 5 0 1 2 1 4 1\nencode 4 3 15\nencode 4 4 15\nword 15 0 1 1 1 2 1 4 1\ndecode 4 3 15 3\n";
-        let expected = "4 0 word 0=1 1=1 2=1 6=1 9=1 10=1 12=1 14=1\n5 2 word kept\n7 0 3 word 0=1 1=1 2=1 4=1 5=1 8=1 10=1 list 0=5 1=8 2=10\n";
+        let expected = "4 0 0 0 word 0=1 1=1 2=1 6=1 9=1 10=1 12=1 14=1\n5 2 0 0 word kept\n7 0 0 0 3 word 0=1 1=1 2=1 4=1 5=1 8=1 10=1 list 0=5 1=8 2=10\n";
+        assert_eq!(text(commands.as_bytes()), expected);
+    }
+
+    #[test]
+    fn the_bad_bit_is_told() {
+        let commands = "word 15\nopen 4 3\nstretch 3 0 1 2 2\nsplice 10\nstretch 2 0 1 1 3\nedit 4 3 0\nword 15 7 2\nedit 4 3 0\n";
+        let expected =
+            "2 0 0 0 4 3 bits sums\n4 5 0 2 4 3 bits sums\n6 5 1 1 word kept\n8 5 0 7 word kept\n";
         assert_eq!(text(commands.as_bytes()), expected);
     }
 
@@ -279,7 +298,7 @@ mod tests {
     #[test]
     fn the_record_and_the_word_stay_from_line_to_line() {
         let commands = "word 15\nopen 4 3\nstretch 4 0 1 1 1 2 1 3 1\nsplice 0\nkept 15 3\nstretch 1 0 1\nsplice 15\nedit 4 3 18446744073709551615\n";
-        let expected = "2 0 4 3 bits sums\n4 0 4 3 bits 0=1 1=1 2=1 3=1 sums 0=15 1=15 2=1\n5 6 0 word kept list kept\n7 12 4 3 bits 0=1 1=1 2=1 3=1 sums 0=15 1=15 2=1\n8 12 word kept\n";
+        let expected = "2 0 0 0 4 3 bits sums\n4 0 0 0 4 3 bits 0=1 1=1 2=1 3=1 sums 0=15 1=15 2=1\n5 6 0 word kept list kept\n7 12 0 0 4 3 bits 0=1 1=1 2=1 3=1 sums 0=15 1=15 2=1\n8 12 0 0 word kept\n";
         assert_eq!(text(commands.as_bytes()), expected);
     }
 

@@ -4,7 +4,7 @@ use crate::codes::Code;
 use crate::editing::edit;
 use crate::kept::{decode_kept, open, splice, Kept};
 use crate::made_up::MadeUp;
-use crate::sheet;
+use crate::sheet::{self, plain, Refusal};
 use crate::tally::Tally;
 use crate::words::with_parity;
 
@@ -53,7 +53,7 @@ impl Trial<'_> {
         self.made_up.flip(&mut word, count);
         self.edit_some(&mut word);
         let mut record = open(self.m, self.code, &word);
-        self.mix_sums(0, &record);
+        self.mix_sums(plain(0), &record);
         for _ in 0..3 {
             let start = self.made_up.below(n + 1);
             let long = self.made_up.below((n - start).min(LONGEST) + 1);
@@ -61,7 +61,7 @@ impl Trial<'_> {
             record = self.splice(&record, start, &stretch);
         }
         record = self.splice(&record, n, &[1]);
-        record = self.splice(&record, 0, &[2]);
+        record = self.splice(&record, 4, &[1, 0, 2]);
         self.decode(&record);
         let place = self.made_up.below(t);
         record.sums[place] = self.made_up.below(n + 1) as u16;
@@ -75,21 +75,27 @@ impl Trial<'_> {
         let long = self.made_up.below(k - start + 1);
         let stretch = self.made_up.bits(long);
         *word = edit(self.code, &self.generator, word, start, &stretch);
-        self.tally.mix(0);
+        self.mix_told(plain(0));
         self.tally.mix_all(word.iter().map(|bit| usize::from(*bit)));
     }
 
     fn splice(&mut self, record: &Kept, start: usize, stretch: &[u8]) -> Kept {
-        let (number, result) = match sheet::splice(record, start as u64, stretch) {
-            Ok(code) => (0, splice(&code, record, start, stretch)),
-            Err(number) => (number, record.clone()),
+        let (told, result) = match sheet::splice(record, start as u64, stretch) {
+            Ok(code) => (plain(0), splice(&code, record, start, stretch)),
+            Err(refusal) => (refusal, record.clone()),
         };
-        self.mix_sums(number, &result);
+        self.mix_sums(told, &result);
         result
     }
 
-    fn mix_sums(&mut self, number: u32, record: &Kept) {
-        self.tally.mix(number as usize);
+    /// The number, the buffer and the place.
+    fn mix_told(&mut self, told: Refusal) {
+        self.tally
+            .mix_all([told.number as usize, told.buffer, told.place]);
+    }
+
+    fn mix_sums(&mut self, told: Refusal, record: &Kept) {
+        self.mix_told(told);
         let sums = &record.sums[..self.code.t];
         self.tally.mix_all(sums.iter().map(|sum| usize::from(*sum)));
     }

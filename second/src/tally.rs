@@ -28,20 +28,20 @@ impl Tally {
         }
     }
 
-    /// Number 0, the number of wrong places, the word, and the list with its zeros.
+    /// Number 0 with two zeros, the number of wrong places, the word, and the list with its zeros.
     fn add_mended(&mut self, t: usize, word: &[u8], places: &[usize]) {
         self.mended += 1;
         self.wrong += places.len();
-        self.mix_all([0, places.len()]);
+        self.mix_all([0, 0, 0, places.len()]);
         self.mix_all(word.iter().map(|bit| usize::from(*bit)));
         self.mix_all(places.iter().copied());
         self.mix_all(vec![0; t - places.len()]);
     }
 
-    /// Number 6, no wrong places, and both buffers as lent: the word filled with 170, the list with 43690.
+    /// Number 6 with two zeros, no wrong places, and both buffers as lent: the word filled with 170, the list with 43690.
     fn add_refused(&mut self, code: &Code) {
         self.refused += 1;
-        self.mix_all([6, 0]);
+        self.mix_all([6, 0, 0, 0]);
         self.mix_all(vec![170; code.n]);
         self.mix_all(vec![43690; code.t]);
     }

@@ -58,7 +58,7 @@ impl Kept {
     /// ```
     pub fn open(m: usize, t: usize, word: &[u8]) -> Result<Kept, Refusal> {
         let answer = library::open(m, t, word);
-        Refusal::check(answer.number).map(|()| answer.record)
+        Refusal::check_told(answer.told).map(|()| answer.record)
     }
 
     /// Replaces places from `start` on and adds the sums of those that changed to the stored ones. Refused, the record is as it was. Checks: 1, 2, 7, 12, 5.
@@ -69,13 +69,15 @@ impl Kept {
     /// kept.splice(0, &[1, 1, 1, 0, 1])?;
     /// assert_eq!(kept.sums[..3], [4, 10, 6]);
     /// assert_eq!(kept.splice(15, &[1]), Err(Refusal::StretchEnd));
+    /// let bad_bit = Refusal::BitAboveOne { buffer: 0, place: 2 };
+    /// assert_eq!(kept.splice(10, &[1, 0, 2]), Err(bad_bit));
     /// # Ok::<(), Refusal>(())
     /// ```
     pub fn splice(&mut self, start: usize, stretch: &[u8]) -> Result<(), Refusal> {
         let answer = library::splice(self.clone(), start, stretch);
         // A refused splice gives back the record that it got.
         *self = answer.record;
-        Refusal::check(answer.number)
+        Refusal::check_told(answer.told)
     }
 
     /// Mends the stored bits by the stored sums, into buffers like those of [`decode`](crate::decode). Checks: 1, 2, 7, 4 (word, then list), 6.

@@ -13,18 +13,32 @@ pub struct SizesAnswer {
     pub k: usize,
 }
 
+/// What Encode and Edit answer, and with what the answers of Decode, Open and Splice begin.
 #[repr(C)]
-pub struct DecodeAnswer {
+pub struct Told {
     pub number: u32,
-    pub zero_after_number: u32,
-    pub wrong: usize,
+    pub buffer: u32,
+    pub place: usize,
 }
 
 #[repr(C)]
+pub struct DecodeAnswer {
+    pub told: Told,
+    pub wrong: usize,
+}
+
+/// What Open and Splice answer.
+#[repr(C)]
 pub struct KeptAnswer {
+    pub told: Told,
+    pub record: Kept,
+}
+
+#[repr(C)]
+pub struct DecodeKeptAnswer {
     pub number: u32,
     pub zero_after_number: u32,
-    pub record: Kept,
+    pub wrong: usize,
 }
 
 #[repr(C)]
@@ -37,7 +51,7 @@ pub struct ReadAnswer {
 }
 
 mod raw {
-    use super::{DecodeAnswer, Kept, KeptAnswer, ReadAnswer, SizesAnswer};
+    use super::{DecodeAnswer, DecodeKeptAnswer, Kept, KeptAnswer, ReadAnswer, SizesAnswer, Told};
 
     extern "C" {
         pub fn blentovar_sizes(m: usize, t: usize) -> SizesAnswer;
@@ -54,7 +68,7 @@ mod raw {
             message_places: usize,
             word: *mut u8,
             word_places: usize,
-        ) -> u32;
+        ) -> Told;
         pub fn blentovar_decode(
             m: usize,
             t: usize,
@@ -73,7 +87,7 @@ mod raw {
             start: usize,
             stretch: *const u8,
             stretch_places: usize,
-        ) -> u32;
+        ) -> Told;
         pub fn blentovar_open(
             m: usize,
             t: usize,
@@ -92,7 +106,7 @@ mod raw {
             word_places: usize,
             list: *mut u16,
             list_places: usize,
-        ) -> DecodeAnswer;
+        ) -> DecodeKeptAnswer;
         pub fn blentovar_make_frame(
             house: u16,
             poll: u16,
@@ -114,7 +128,7 @@ pub fn describe(m: usize, t: usize, generator: &mut [u8]) -> SizesAnswer {
     unsafe { raw::blentovar_describe(m, t, generator.as_mut_ptr(), generator.len()) }
 }
 
-pub fn encode(m: usize, t: usize, message: &[u8], word: &mut [u8]) -> u32 {
+pub fn encode(m: usize, t: usize, message: &[u8], word: &mut [u8]) -> Told {
     let (from, to) = (message.as_ptr(), word.as_mut_ptr());
     // SAFETY: only the places of the message are read and those of the word written.
     unsafe { raw::blentovar_encode(m, t, from, message.len(), to, word.len()) }
@@ -142,7 +156,7 @@ pub fn decode(
     }
 }
 
-pub fn edit(m: usize, t: usize, word: &mut [u8], start: usize, stretch: &[u8]) -> u32 {
+pub fn edit(m: usize, t: usize, word: &mut [u8], start: usize, stretch: &[u8]) -> Told {
     let (to, from) = (word.as_mut_ptr(), stretch.as_ptr());
     // SAFETY: only the places of the word are read and written, and those of the stretch read.
     unsafe { raw::blentovar_edit(m, t, to, word.len(), start, from, stretch.len()) }
@@ -158,7 +172,7 @@ pub fn splice(kept: Kept, start: usize, stretch: &[u8]) -> KeptAnswer {
     unsafe { raw::blentovar_splice(kept, start, stretch.as_ptr(), stretch.len()) }
 }
 
-pub fn decode_kept(kept: Kept, word: &mut [u8], list: &mut [u16]) -> DecodeAnswer {
+pub fn decode_kept(kept: Kept, word: &mut [u8], list: &mut [u16]) -> DecodeKeptAnswer {
     let (to, places) = (word.as_mut_ptr(), list.as_mut_ptr());
     // SAFETY: only the places of the two slices are written; the record goes in by value.
     unsafe { raw::blentovar_decode_kept(kept, to, word.len(), places, list.len()) }

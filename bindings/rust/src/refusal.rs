@@ -1,52 +1,44 @@
 //! The refusal sheet.
 
+use crate::library::Told;
 use core::error::Error;
 use core::fmt;
 
-/// Why an operation refused. Each refusal has one number and one condition, which is also its text. Where several conditions hold, the one that is checked first is given.
+/// Why an operation refused. Each refusal has one number and one condition, which is also its text; the text of 5 goes on to say which bit. Where several conditions hold, the one that is checked first is given.
 #[derive(Clone, Copy, Debug, PartialEq, Eq, Hash)]
 #[non_exhaustive]
 pub enum Refusal {
     /// 1: m is not 3 to 10.
-    FieldSize = 1,
+    FieldSize,
     /// 2: t is not listed for m.
-    NotListed = 2,
+    NotListed,
     /// 3: the message is not k long; a received or edited word is not n long.
-    InputLength = 3,
+    InputLength,
     /// 4: an output buffer has the wrong length, longer or shorter.
-    OutputLength = 4,
+    OutputLength,
     /// 5: a bit of a lent message, word or stretch is above 1.
-    BitAboveOne = 5,
+    BitAboveOne {
+        /// 1 for the stretch of Edit; 0 for the word, or for the only buffer whose bits are looked at, so also for the stretch of Splice.
+        buffer: u32,
+        /// The first place in that buffer, as it was lent, that holds more than 1.
+        place: usize,
+    },
     /// 6: no code word within t (Decode, reading a frame); no set of at most t places with the kept sums (Decode kept).
-    NothingNear = 6,
+    NothingNear,
     /// 7: in a kept record one of the first n bits is above 1 or one of the first t sums is 2^m or more.
-    RecordContents = 7,
+    RecordContents,
     // 8 is struck, and no refusal gets it again.
     /// 9: a frame, or the buffer for one, is not 32 bytes.
-    FrameLength = 9,
+    FrameLength,
     /// 10: a frame's last bit is 1.
-    PadBit = 10,
+    PadBit,
     /// 11: a decoded frame's lead bits are wrong.
-    LeadBits = 11,
+    LeadBits,
     /// 12: a stretch runs past the end: k for Edit, n for Splice.
-    StretchEnd = 12,
+    StretchEnd,
 }
 
 use Refusal::*;
-
-const SHEET: [Refusal; 11] = [
-    FieldSize,
-    NotListed,
-    InputLength,
-    OutputLength,
-    BitAboveOne,
-    NothingNear,
-    RecordContents,
-    FrameLength,
-    PadBit,
-    LeadBits,
-    StretchEnd,
-];
 
 impl Refusal {
     /// The sheet's number, 1 to 12. 8 is struck, so no refusal has it.
@@ -55,27 +47,62 @@ impl Refusal {
     /// assert_eq!(blentovar::Refusal::StretchEnd.number(), 12);
     /// ```
     pub fn number(self) -> u32 {
-        self as u32
-    }
-
-    /// What a number that the library answers says: 0 is no refusal.
-    pub(crate) fn check(number: u32) -> Result<(), Refusal> {
-        if number == 0 {
-            return Ok(());
+        match self {
+            FieldSize => 1,
+            NotListed => 2,
+            InputLength => 3,
+            OutputLength => 4,
+            BitAboveOne { .. } => 5,
+            NothingNear => 6,
+            RecordContents => 7,
+            FrameLength => 9,
+            PadBit => 10,
+            LeadBits => 11,
+            StretchEnd => 12,
         }
-        let refusal = SHEET.iter().find(|refusal| refusal.number() == number);
-        Err(*refusal.expect("the library answers a number of the sheet"))
     }
-}
 
-impl fmt::Display for Refusal {
-    fn fmt(&self, f: &mut fmt::Formatter) -> fmt::Result {
-        f.write_str(match self {
+    /// What the library tells: number 0 is no refusal.
+    pub(crate) fn check_told(told: Told) -> Result<(), Refusal> {
+        let Told {
+            number,
+            buffer,
+            place,
+        } = told;
+        Err(match number {
+            0 => return Ok(()),
+            1 => FieldSize,
+            2 => NotListed,
+            3 => InputLength,
+            4 => OutputLength,
+            5 => BitAboveOne { buffer, place },
+            6 => NothingNear,
+            7 => RecordContents,
+            9 => FrameLength,
+            10 => PadBit,
+            11 => LeadBits,
+            12 => StretchEnd,
+            _ => panic!("the library answers a number of the sheet"),
+        })
+    }
+
+    /// The same for an operation that looks at no lent bits, so that nothing is told beside the number.
+    pub(crate) fn check(number: u32) -> Result<(), Refusal> {
+        Refusal::check_told(Told {
+            number,
+            buffer: 0,
+            place: 0,
+        })
+    }
+
+    /// The condition, in the words of the sheet.
+    fn condition(self) -> &'static str {
+        match self {
             FieldSize => "m is not 3 to 10",
             NotListed => "t is not listed for m",
             InputLength => "the message is not k long; a received or edited word is not n long",
             OutputLength => "an output buffer has the wrong length, longer or shorter",
-            BitAboveOne => "a bit of a lent message, word or stretch is above 1",
+            BitAboveOne { .. } => "a bit of a lent message, word or stretch is above 1",
             NothingNear => {
                 "no code word within t (Decode, reading a frame); no set of at most t places with the kept sums (Decode kept)"
             }
@@ -86,7 +113,28 @@ impl fmt::Display for Refusal {
             PadBit => "a frame's last bit is 1",
             LeadBits => "a decoded frame's lead bits are wrong",
             StretchEnd => "a stretch runs past the end: k for Edit, n for Splice",
-        })
+        }
+    }
+}
+
+/// The condition; of a bit above 1 also where it stands.
+///
+/// ```
+/// let refusal = blentovar::Refusal::BitAboveOne { buffer: 1, place: 4 };
+/// let text = "a bit of a lent message, word or stretch is above 1: place 4 of buffer 1, the stretch";
+/// assert_eq!(refusal.to_string(), text);
+/// ```
+impl fmt::Display for Refusal {
+    fn fmt(&self, f: &mut fmt::Formatter) -> fmt::Result {
+        f.write_str(self.condition())?;
+        let BitAboveOne { buffer, place } = *self else {
+            return Ok(());
+        };
+        let name = match buffer {
+            0 => "the word or the only one lent",
+            _ => "the stretch",
+        };
+        write!(f, ": place {place} of buffer {buffer}, {name}")
     }
 }
 

@@ -58,7 +58,7 @@ pub fn describe(m: usize, t: usize, generator: &mut [u8]) -> Result<Code, Refusa
 /// # Ok::<(), blentovar::Refusal>(())
 /// ```
 pub fn encode(m: usize, t: usize, message: &[u8], word: &mut [u8]) -> Result<(), Refusal> {
-    Refusal::check(library::encode(m, t, message, word))
+    Refusal::check_told(library::encode(m, t, message, word))
 }
 
 /// Puts the code word within t of n received bits into a buffer of n places, the wrong places ascending and then zeros into a list of t places, and gives how many were wrong. Checks: 1, 2, 3, 4 (word, then list), 5, 6.
@@ -78,7 +78,7 @@ pub fn decode(
     list: &mut [u16],
 ) -> Result<usize, Refusal> {
     let answer = library::decode(m, t, received, word, list);
-    Refusal::check(answer.number).map(|()| answer.wrong)
+    Refusal::check_told(answer.told).map(|()| answer.wrong)
 }
 
 /// Replaces message places of a word of n places, from message place `start` on, and brings its parity up to date; the word may be no code word. Checks: 1, 2, 3, 12, 5 (word, then stretch).
@@ -89,6 +89,8 @@ pub fn decode(
 /// edit(4, 3, &mut word, 0, &[1, 0, 1, 0, 1])?;
 /// assert_eq!(word, [1, 1, 1, 0, 0, 0, 1, 0, 0, 1, 1, 0, 1, 0, 1]);
 /// assert_eq!(edit(4, 3, &mut word, 5, &[1]), Err(Refusal::StretchEnd));
+/// let bad_bit = Refusal::BitAboveOne { buffer: 1, place: 1 };
+/// assert_eq!(edit(4, 3, &mut word, 0, &[1, 3]), Err(bad_bit));
 /// # Ok::<(), Refusal>(())
 /// ```
 pub fn edit(
@@ -98,5 +100,5 @@ pub fn edit(
     start: usize,
     stretch: &[u8],
 ) -> Result<(), Refusal> {
-    Refusal::check(library::edit(m, t, word, start, stretch))
+    Refusal::check_told(library::edit(m, t, word, start, stretch))
 }

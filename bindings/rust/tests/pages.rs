@@ -8,7 +8,10 @@ const SHEET: [Refusal; 11] = [
     Refusal::NotListed,
     Refusal::InputLength,
     Refusal::OutputLength,
-    Refusal::BitAboveOne,
+    Refusal::BitAboveOne {
+        buffer: 0,
+        place: 0,
+    },
     Refusal::NothingNear,
     Refusal::RecordContents,
     Refusal::FrameLength,
@@ -17,11 +20,22 @@ const SHEET: [Refusal; 11] = [
     Refusal::StretchEnd,
 ];
 
+/// A text up to where it begins to say which bit.
+fn up_to<'a>(text: &'a str, which: &str) -> &'a str {
+    text.split(which).next().unwrap_or_default()
+}
+
 #[test]
 fn numbers_texts_and_names_are_those_of_the_sheet() {
     let page = include_str!("../../../docs/REFUSALS.md");
     for refusal in SHEET {
-        let line = format!("| {} | {refusal} | `{refusal:?}` |", refusal.number());
+        let (number, text, name) = (
+            refusal.number(),
+            refusal.to_string(),
+            format!("{refusal:?}"),
+        );
+        let (text, name) = (up_to(&text, ": place "), up_to(&name, " {"));
+        let line = format!("| {number} | {text} | `{name}` |");
         assert!(page.lines().any(|other| other == line), "{line}");
     }
 }

@@ -341,6 +341,15 @@ firstAbove-before (x ∷ xs) i l = pick (decLe x 1) (firstAbove-before xs) i l
     pick (yes h) rest (suc i) l = rest i (omega (arith, firstAbove-bit xs h))
     pick (no h) rest i l = absurd (omega (arith, firstAbove-above xs (lt-of-not-le h)))
 
+-- and that one does not, where there is one
+pub firstAbove-here : (xs : List ℕ) → firstAbove xs < length xs → 1 < getD xs (firstAbove xs) 0
+firstAbove-here [] l = absurd (omega arith)
+firstAbove-here (x ∷ xs) l = pick (decLe x 1) (firstAbove-here xs)
+  where
+    pick : Dec (x ≤ 1) → (firstAbove xs < length xs → 1 < getD xs (firstAbove xs) 0) → 1 < getD (x ∷ xs) (firstAbove (x ∷ xs)) 0
+    pick (yes h) rest = rw (firstAbove-bit xs h) (rest (omega (arith, firstAbove-bit xs h)))
+    pick (no h) rest = rw (firstAbove-above xs (lt-of-not-le h)) (lt-of-not-le h)
+
 pub bits-of-firstAbove : (xs : List ℕ) → firstAbove xs ≡ length xs → AreBits xs
 bits-of-firstAbove xs e = record { at = λ i. pick i (decLe (suc i) (length xs)) }
   where

@@ -3,7 +3,8 @@
 use mathlib.Core.Path.{_≡_}
 use mathlib.Core.List.{List}
 use Prim.Native.Nat.{ℕ}
-use Rattle.sheet.specs.Number.{outcomeNumber}
+use Rattle.sheet.specs.declared.Told.{Told}
+use Rattle.sheet.specs.Number.{outcomeTold, outcomeNumber}
 use Rattle.codec.specs.Sizes.{GivesSizes}
 use Rattle.codec.specs.Describe.{Describes}
 use Rattle.codec.specs.Encode.{Encodes}
@@ -18,8 +19,9 @@ use Rattle.blentovar.specs.declared.SizesAnswer.{SizesAnswer}
 use Rattle.blentovar.specs.declared.DecodeAnswer.{DecodeAnswer}
 use Rattle.blentovar.specs.declared.Record.{Record}
 use Rattle.blentovar.specs.declared.KeptAnswer.{KeptAnswer}
+use Rattle.blentovar.specs.declared.DecodeKeptAnswer.{DecodeKeptAnswer}
 use Rattle.blentovar.specs.declared.ReadAnswer.{ReadAnswer}
-use Rattle.blentovar.specs.Layout.{sizesAnswer, decodeAnswer, keptOf, keptAnswer, readAnswer}
+use Rattle.blentovar.specs.Layout.{sizesAnswer, decodeAnswer, keptOf, keptAnswer, decodeKeptAnswer, readAnswer}
 
 -- r is an answer that is promised, laid out
 pub record LaidOut {A R : Type 0} (layout : A → R) (Promised : A → Type 0) (r : R) : Type 0 where
@@ -33,14 +35,14 @@ SizesAs m t = LaidOut sizesAnswer (GivesSizes m t)
 abbrev pub DescribesAs : ℕ → ℕ → List ℕ → SizesAnswer → List ℕ → Type 0
 DescribesAs m t lent r left = LaidOut sizesAnswer (λ answer. Describes m t lent answer left) r
 
-abbrev pub EncodesAs : ℕ → ℕ → List ℕ → List ℕ → ℕ → List ℕ → Type 0
-EncodesAs m t message lent r left = LaidOut outcomeNumber (λ answer. Encodes m t message lent answer left) r
+abbrev pub EncodesAs : ℕ → ℕ → List ℕ → List ℕ → Told → List ℕ → Type 0
+EncodesAs m t message lent r left = LaidOut outcomeTold (λ answer. Encodes m t message lent answer left) r
 
 abbrev pub DecodesAs : ℕ → ℕ → List ℕ → List ℕ → List ℕ → DecodeAnswer → List ℕ → List ℕ → Type 0
 DecodesAs m t received lentWord lentList r word list = LaidOut decodeAnswer (λ answer. Decodes m t received lentWord lentList answer word list) r
 
-abbrev pub EditsAs : ℕ → ℕ → List ℕ → ℕ → List ℕ → ℕ → List ℕ → Type 0
-EditsAs m t lent start stretch r left = LaidOut outcomeNumber (λ answer. Edits m t lent start stretch answer left) r
+abbrev pub EditsAs : ℕ → ℕ → List ℕ → ℕ → List ℕ → Told → List ℕ → Type 0
+EditsAs m t lent start stretch r left = LaidOut outcomeTold (λ answer. Edits m t lent start stretch answer left) r
 
 abbrev pub OpensAs : ℕ → ℕ → List ℕ → KeptAnswer → Type 0
 OpensAs m t word = LaidOut keptAnswer (Opens m t word)
@@ -48,8 +50,9 @@ OpensAs m t word = LaidOut keptAnswer (Opens m t word)
 abbrev pub SplicesAs : Record → ℕ → List ℕ → KeptAnswer → Type 0
 SplicesAs stored start stretch = LaidOut keptAnswer (Splices (keptOf stored) start stretch)
 
-abbrev pub DecodesKeptAs : Record → List ℕ → List ℕ → DecodeAnswer → List ℕ → List ℕ → Type 0
-DecodesKeptAs stored lentWord lentList r word list = LaidOut decodeAnswer (λ answer. DecodesKept (keptOf stored) lentWord lentList answer word list) r
+abbrev pub DecodesKeptAs : Record → List ℕ → List ℕ → DecodeKeptAnswer → List ℕ → List ℕ → Type 0
+DecodesKeptAs stored lentWord lentList r word list =
+    LaidOut decodeKeptAnswer (λ answer. DecodesKept (keptOf stored) lentWord lentList answer word list) r
 
 abbrev pub MakesAs : ℕ → ℕ → ℕ → List ℕ → ℕ → List ℕ → Type 0
 MakesAs house poll counter lent r left =

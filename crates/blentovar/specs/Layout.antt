@@ -1,7 +1,7 @@
 -- Answers and records as C lays them out: a definition for each struct gives its fields. docs/SCOPE.md 11: "Numbers come back as the sheet has them, 0 where
 -- nothing is refused."; "Where the layout of C would leave some, a named field stands there. It is 0 in whatever comes back, and is not looked at in a record
 -- that is handed in."
-use Rattle.sheet.specs.Number.{outcomeNumber}
+use Rattle.sheet.specs.Number.{outcomeTold, outcomeNumber}
 use Rattle.codec.specs.declared.describing.Described.{Described}
 use Rattle.decode.specs.declared.Decoded.{Decoded}
 use Rattle.kept.specs.declared.Kept.{Kept}
@@ -11,13 +11,14 @@ use Rattle.blentovar.specs.declared.SizesAnswer.{SizesAnswer}
 use Rattle.blentovar.specs.declared.DecodeAnswer.{DecodeAnswer}
 use Rattle.blentovar.specs.declared.Record.{Record}
 use Rattle.blentovar.specs.declared.KeptAnswer.{KeptAnswer}
+use Rattle.blentovar.specs.declared.DecodeKeptAnswer.{DecodeKeptAnswer}
 use Rattle.blentovar.specs.declared.ReadAnswer.{ReadAnswer}
 
 abbrev pub sizesAnswer : Described → SizesAnswer
 sizesAnswer x = record { number = outcomeNumber (x .outcome); «zero_after_number» = 0; n = x .n; k = x .k }
 
 abbrev pub decodeAnswer : Decoded → DecodeAnswer
-decodeAnswer x = record { number = outcomeNumber (x .outcome); «zero_after_number» = 0; wrong = x .wrong }
+decodeAnswer x = let told = outcomeTold (x .outcome) in record { number = told .number; buffer = told .buffer; place = told .place; wrong = x .wrong }
 
 -- a record that comes back
 abbrev pub laidOut : Kept → Record
@@ -28,7 +29,12 @@ abbrev pub keptOf : Record → Kept
 keptOf r = record { m = r .m; t = r .t; bits = r .bits; sums = r .sums }
 
 abbrev pub keptAnswer : Answer → KeptAnswer
-keptAnswer x = record { number = outcomeNumber (x .outcome); «zero_after_number» = 0; «record» = laidOut (x .record) }
+keptAnswer x =
+    let told = outcomeTold (x .outcome) in
+    record { number = told .number; buffer = told .buffer; place = told .place; «record» = laidOut (x .record) }
+
+abbrev pub decodeKeptAnswer : Decoded → DecodeKeptAnswer
+decodeKeptAnswer x = record { number = outcomeNumber (x .outcome); «zero_after_number» = 0; wrong = x .wrong }
 
 abbrev pub readAnswer : ReadFrame → ReadAnswer
 readAnswer x =

@@ -2,13 +2,14 @@
 
 ghost use mathlib.Core.Path.{_≡_};
 ghost use Rattle.blentovar.specs.Answers.{SizesAs, DescribesAs, EncodesAs, DecodesAs, EditsAs, OpensAs, SplicesAs, DecodesKeptAs, MakesAs, ReadsAs};
-ghost use Rattle.blentovar.specs.Layout.{sizesAnswer, decodeAnswer, laidOut, keptOf, keptAnswer, readAnswer};
+ghost use Rattle.blentovar.specs.Layout.{sizesAnswer, decodeAnswer, laidOut, keptOf, keptAnswer, decodeKeptAnswer, readAnswer};
 use codec::Described;
 use decode::Decoded;
 use frame::ReadFrame;
 use kept::Answer;
 use kept::Kept;
 use layout::Reading;
+use sheet::Told;
 
 // The sheet's number, 0 where nothing is refused, and n and k.
 #[repr(C)]
@@ -19,11 +20,12 @@ pub struct SizesAnswer {
     pub k: usize,
 }
 
-// The sheet's number, 0 where nothing is refused, and the number of wrong places.
+// What is told, and the number of wrong places.
 #[repr(C)]
 pub struct DecodeAnswer {
     pub number: u32,
-    pub zero_after_number: u32,
+    pub buffer: u32,
+    pub place: usize,
     pub wrong: usize,
 }
 
@@ -38,12 +40,21 @@ pub struct Record {
     pub zero_after_sums: u16,
 }
 
-// The sheet's number, 0 where nothing is refused, and the record.
+// What is told, and the record.
 #[repr(C)]
 pub struct KeptAnswer {
     pub number: u32,
-    pub zero_after_number: u32,
+    pub buffer: u32,
+    pub place: usize,
     pub record: Record,
+}
+
+// The sheet's number, 0 where nothing is refused, and the number of wrong places.
+#[repr(C)]
+pub struct DecodeKeptAnswer {
+    pub number: u32,
+    pub zero_after_number: u32,
+    pub wrong: usize,
 }
 
 // The sheet's number, 0 where nothing is refused, the reading, and the number of wrong places.
@@ -72,9 +83,11 @@ fn decode_answer(given: Decoded) -> DecodeAnswer
     ensures { λ r. ⌜ r ≡ decodeAnswer given ⌝ }
 {
     let outcome = given.outcome;
+    let told = sheet::tell_outcome(outcome);
     DecodeAnswer {
-        number: sheet::outcome_number(outcome),
-        zero_after_number: 0,
+        number: told.number,
+        buffer: told.buffer,
+        place: told.place,
         wrong: given.wrong,
     }
 }
@@ -113,10 +126,23 @@ fn kept_answer(given: Answer) -> KeptAnswer
 {
     let outcome = given.outcome;
     let record = given.record;
+    let told = sheet::tell_outcome(outcome);
     KeptAnswer {
+        number: told.number,
+        buffer: told.buffer,
+        place: told.place,
+        record: laid_out(record),
+    }
+}
+
+fn decode_kept_answer(given: Decoded) -> DecodeKeptAnswer
+    ensures { λ r. ⌜ r ≡ decodeKeptAnswer given ⌝ }
+{
+    let outcome = given.outcome;
+    DecodeKeptAnswer {
         number: sheet::outcome_number(outcome),
         zero_after_number: 0,
-        record: laid_out(record),
+        wrong: given.wrong,
     }
 }
 
@@ -151,11 +177,11 @@ pub extern "C" fn blentovar_describe(m: usize, t: usize, generator: &mut [u8]) -
 }
 
 #[no_mangle]
-pub extern "C" fn blentovar_encode(m: usize, t: usize, message: &[u8], word: &mut [u8]) -> u32
+pub extern "C" fn blentovar_encode(m: usize, t: usize, message: &[u8], word: &mut [u8]) -> Told
     ensures { λ r. ⌜ EncodesAs m t (now (message .entry)) (now (word .entry)) r (now (word .exit)) ⌝ }
 {
     let outcome = codec::encode(m, t, message, word);
-    sheet::outcome_number(outcome)
+    sheet::tell_outcome(outcome)
 }
 
 #[no_mangle]
@@ -179,11 +205,11 @@ pub extern "C" fn blentovar_edit(
     word: &mut [u8],
     start: usize,
     stretch: &[u8],
-) -> u32
+) -> Told
     ensures { λ r. ⌜ EditsAs m t (now (word .entry)) start (now (stretch .entry)) r (now (word .exit)) ⌝ }
 {
     let outcome = codec::edit(m, t, word, start, stretch);
-    sheet::outcome_number(outcome)
+    sheet::tell_outcome(outcome)
 }
 
 #[no_mangle]
@@ -208,12 +234,12 @@ pub extern "C" fn blentovar_decode_kept(
     stored: Record,
     word: &mut [u8],
     list: &mut [u16],
-) -> DecodeAnswer
+) -> DecodeKeptAnswer
     ensures { λ r. ⌜ DecodesKeptAs stored (now (word .entry)) (now (list .entry)) r (now (word .exit)) (now (list .exit)) ⌝ }
 {
     let kept = kept_of(stored);
     let given = decode_kept::decode_kept(kept, word, list);
-    decode_answer(given)
+    decode_kept_answer(given)
 }
 
 #[no_mangle]

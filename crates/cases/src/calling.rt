@@ -8,9 +8,10 @@ use crate::showing::not_understood;
 use crate::showing::print;
 use crate::showing::print_number;
 use crate::showing::show_bytes;
-use crate::showing::show_decoded;
 use crate::showing::show_lent_bytes;
+use crate::showing::show_mended;
 use crate::showing::show_number;
+use crate::showing::show_told;
 use blentovar::Record;
 use commands::names::Command;
 use commands::numbers::number_at;
@@ -54,8 +55,8 @@ fn describe(line: u64, numbers: &[usize]) {
 fn encode_into(line: u64, m: usize, t: usize, message: &[u8], word: &mut [u8])
     requires { ⌜ length (now word) ≤ 2048 ⌝ }
 {
-    let number = blentovar::blentovar_encode(m, t, message, word);
-    show_number(line, number);
+    let told = blentovar::blentovar_encode(m, t, message, word);
+    show_told(line, told.number, told.buffer, told.place);
     print(b" word");
     show_lent_bytes(word);
     end_line();
@@ -77,7 +78,8 @@ fn decode_into(line: u64, m: usize, t: usize, received: &[u8], word: &mut [u8], 
     requires { ⌜ (length (now word) ≤ 2048) × (length (now list) ≤ 1024) ⌝ }
 {
     let answer = blentovar::blentovar_decode(m, t, received, word, list);
-    show_decoded(line, answer, word, list);
+    show_told(line, answer.number, answer.buffer, answer.place);
+    show_mended(answer.wrong, word, list);
 }
 
 fn decode(line: u64, numbers: &[usize], received: &[u8]) {
@@ -113,8 +115,8 @@ fn edit_copy(
     requires { ⌜ length (now word) ≤ length (now copy) ⌝ }
 {
     bytes::copy(word, copy);
-    let number = blentovar::blentovar_edit(m, t, copy, start, stretch);
-    show_number(line, number);
+    let told = blentovar::blentovar_edit(m, t, copy, start, stretch);
+    show_told(line, told.number, told.buffer, told.place);
     print(b" word");
     if check::same(copy, word) {
         print(b" kept");
@@ -142,7 +144,8 @@ fn decode_kept_into(line: u64, record: Record, word: &mut [u8], list: &mut [u16]
     requires { ⌜ (length (now word) ≤ 2048) × (length (now list) ≤ 1024) ⌝ }
 {
     let answer = blentovar::blentovar_decode_kept(record, word, list);
-    show_decoded(line, answer, word, list);
+    show_number(line, answer.number);
+    show_mended(answer.wrong, word, list);
 }
 
 fn decode_kept(line: u64, numbers: &[usize], record: Record) {

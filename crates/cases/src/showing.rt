@@ -3,7 +3,6 @@
 ghost use Prim.Native.Nat.{_≤_};
 ghost use lib.ListN.{length};
 use crate::room;
-use blentovar::DecodeAnswer;
 use blentovar::KeptAnswer;
 use libc::STDOUT_FILENO;
 
@@ -30,6 +29,13 @@ pub(crate) fn not_understood(line: u64) {
 pub(crate) fn show_number(line: u64, number: u32) {
     io::print_decimal(STDOUT_FILENO, line);
     print_number(number as u64);
+}
+
+// The same, with the buffer and the place that come with it.
+pub(crate) fn show_told(line: u64, number: u32, buffer: u32, place: usize) {
+    show_number(line, number);
+    print_number(buffer as u64);
+    print_number(place as u64);
 }
 
 fn show_place(place: usize, value: u64) {
@@ -85,11 +91,11 @@ fn show_lent_list(lent: &[u16])
     }
 }
 
-pub(crate) fn show_decoded(line: u64, answer: DecodeAnswer, word: &[u8], list: &[u16])
+// The rest of a line on decoding: how many places were wrong, and both buffers.
+pub(crate) fn show_mended(wrong: usize, word: &[u8], list: &[u16])
     requires { ⌜ (length (now word) ≤ 2048) × (length (now list) ≤ 1024) ⌝ }
 {
-    show_number(line, answer.number);
-    print_number(answer.wrong as u64);
+    print_number(wrong as u64);
     print(b" word");
     show_lent_bytes(word);
     print(b" list");
@@ -101,7 +107,7 @@ pub(crate) fn show_record(line: u64, answer: KeptAnswer) {
     let record = answer.record;
     let bits = record.bits;
     let sums = record.sums;
-    show_number(line, answer.number);
+    show_told(line, answer.number, answer.buffer, answer.place);
     print_number(record.m as u64);
     print_number(record.t as u64);
     print(b" bits");

@@ -1,5 +1,6 @@
 -- Edit. docs/SCOPE.md 4.6: "Takes m, t, a word of n places, a message place and a stretch. The stretch replaces the message bits from that place on,
--- and the word's own buffer then holds the result." 5.2: its checks are 1, 2, 3, 12, 5.
+-- and the word's own buffer then holds the result." 5.2: its checks are 1, 2, 3, 12, 5; "Edit looks at all of the word's bits before the stretch's."
+-- 5.1: "The buffer is 1 for the stretch of Edit."
 use mathlib.Core.Path.{_≡_}
 use mathlib.Core.Bool.{not}
 use mathlib.Core.List.{List, [], _∷_}
@@ -9,7 +10,7 @@ use lib.ListN.{length, getD}
 use Rattle.sheet.specs.declared.Refusal.the-variants.{InputLength, BitAboveOne, StretchEnd}
 use Rattle.sheet.specs.declared.Outcome.{Outcome}
 use Rattle.sheet.specs.Verdict.{Check, _⇒_, Always}
-use Rattle.bits.specs.Bits.{AreBits, hasBadBit, runsPast, added}
+use Rattle.bits.specs.Bits.{AreBits, firstAbove, hasBadBit, runsPast, added}
 use Rattle.codes.specs.declared.Code.{Code}
 use Rattle.codes.specs.Look.{CodePromise}
 use Rattle.codes.specs.Sums.{CodeWord}
@@ -18,8 +19,8 @@ abbrev pub editChecks : List ℕ → ℕ → List ℕ → Code → List Check
 editChecks word start stretch c =
     not (eqb (length word) (c .n)) ⇒ InputLength
     ∷ runsPast start (length stretch) (c .k) ⇒ StretchEnd
-    ∷ hasBadBit word ⇒ BitAboveOne
-    ∷ hasBadBit stretch ⇒ BitAboveOne
+    ∷ hasBadBit word ⇒ BitAboveOne 0 (firstAbove word)
+    ∷ hasBadBit stretch ⇒ BitAboveOne 1 (firstAbove stretch)
     ∷ []
 
 -- message place i of a word

@@ -8,7 +8,7 @@ use lib.ListN.{length}
 use Rattle.sheet.specs.declared.Refusal.the-variants.{InputLength, OutputLength, BitAboveOne}
 use Rattle.sheet.specs.declared.Outcome.{Outcome}
 use Rattle.sheet.specs.Verdict.{Check, _⇒_, Always}
-use Rattle.bits.specs.Bits.{hasBadBit}
+use Rattle.bits.specs.Bits.{firstAbove, hasBadBit}
 use Rattle.codes.specs.declared.Code.{Code}
 use Rattle.codes.specs.Look.{CodePromise}
 use Rattle.codes.specs.Encoding.{Encoding}
@@ -17,7 +17,7 @@ abbrev pub encodeChecks : List ℕ → List ℕ → Code → List Check
 encodeChecks message lent c =
     not (eqb (length message) (c .k)) ⇒ InputLength
     ∷ not (eqb (length lent) (c .n)) ⇒ OutputLength
-    ∷ hasBadBit message ⇒ BitAboveOne
+    ∷ hasBadBit message ⇒ BitAboveOne 0 (firstAbove message)
     ∷ []
 
 -- the buffer holds the code word that carries the message; refused, it is as lent

@@ -35,13 +35,19 @@ fn checks(m: usize, t: usize, word: &[u8], start: usize, stretch: &[u8]) -> Look
     if past {
         return Look::Refused(Refusal::StretchEnd);
     }
-    let bad_in_word = bits::first_above_one(word);
-    if bad_in_word < word.len() {
-        return Look::Refused(Refusal::BitAboveOne);
+    let in_word = bits::first_above_one(word);
+    if in_word < word.len() {
+        return Look::Refused(Refusal::BitAboveOne {
+            buffer: 0,
+            place: in_word,
+        });
     }
-    let bad_in_stretch = bits::first_above_one(stretch);
-    if bad_in_stretch < stretch.len() {
-        return Look::Refused(Refusal::BitAboveOne);
+    let in_stretch = bits::first_above_one(stretch);
+    if in_stretch < stretch.len() {
+        return Look::Refused(Refusal::BitAboveOne {
+            buffer: 1,
+            place: in_stretch,
+        });
     }
     look
 }

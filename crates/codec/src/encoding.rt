@@ -32,9 +32,9 @@ fn checks(m: usize, t: usize, message: &[u8], word: &[u8]) -> Look
     if word.len() != code.n {
         return Look::Refused(Refusal::OutputLength);
     }
-    let bad = bits::first_above_one(message);
-    if bad < message.len() {
-        return Look::Refused(Refusal::BitAboveOne);
+    let place = bits::first_above_one(message);
+    if place < message.len() {
+        return Look::Refused(Refusal::BitAboveOne { buffer: 0, place });
     }
     look
 }

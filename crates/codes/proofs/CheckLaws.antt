@@ -8,7 +8,7 @@ use native.Mathlib.Omega.{arith}
 use borrow.Author.Tests.{le-leb, lt-leb, lt-ltb, le-ltb, ltb-true}
 use Rattle.field.specs.Product.{IsField}
 use Rattle.sheet.specs.declared.Refusal.{Refusal}
-use Rattle.sheet.specs.declared.Refusal.the-variants.{FieldSize, NotListed}
+use Rattle.sheet.specs.declared.Refusal.the-variants.{FieldSize, NotListed, BitAboveOne}
 use Rattle.sheet.specs.declared.Outcome.{Outcome}
 use Rattle.sheet.specs.declared.Outcome.the-variants.{Done, Refused}
 use Rattle.sheet.specs.Verdict.{Check, verdict}
@@ -175,6 +175,10 @@ module _ {m t : ℕ} {checks : Code → List Check} {look : Look} where
 
     pub on-refused : {r : Refusal} → look ≡ Refuses r → Checked m t checks look → CodePromise m t checks Does stays (Refused r) stays
     on-refused e l = on-refused-as e l refl refl
+
+-- a check of lent bits names the place that was found
+pub names-place : (buffer : ℕ) {found place : ℕ} → place ≡ found → Refused (BitAboveOne buffer found) ≡ Refused (BitAboveOne buffer place)
+names-place buffer e = ap (λ (p : ℕ). Refused (BitAboveOne buffer p)) (sym e)
 
 -- one outcome, where what is done for a code is one
 pub code-one : {L : Type 0} {m t : ℕ} {checks : Code → List Check} {Does : Code → Outcome → L → Type 0} {stays : L} {x y : Outcome} {left left′ : L}

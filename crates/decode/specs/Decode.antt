@@ -10,7 +10,7 @@ use lib.ListN.{length, replicate}
 use Rattle.sheet.specs.declared.Refusal.the-variants.{InputLength, OutputLength, BitAboveOne}
 use Rattle.sheet.specs.declared.Outcome.{Outcome}
 use Rattle.sheet.specs.Verdict.{Check, _⇒_, Searches}
-use Rattle.bits.specs.Bits.{hasBadBit}
+use Rattle.bits.specs.Bits.{firstAbove, hasBadBit}
 use Rattle.bits.specs.Differences.{differences, distance}
 use Rattle.codes.specs.declared.Code.{Code}
 use Rattle.codes.specs.Look.{CodePromise}
@@ -23,7 +23,7 @@ decodeChecks received word list c =
     not (eqb (length received) (c .n)) ⇒ InputLength
     ∷ not (eqb (length word) (c .n)) ⇒ OutputLength
     ∷ not (eqb (length list) (c .t)) ⇒ OutputLength
-    ∷ hasBadBit received ⇒ BitAboveOne
+    ∷ hasBadBit received ⇒ BitAboveOne 0 (firstAbove received)
     ∷ []
 
 -- what is left: the number of wrong places that is given, and both buffers

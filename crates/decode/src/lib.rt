@@ -54,9 +54,9 @@ fn checks(m: usize, t: usize, received: &[u8], word: &[u8], list: &[u16]) -> Loo
     if list.len() != code.t {
         return Look::Refused(Refusal::OutputLength);
     }
-    let bad = bits::first_above_one(received);
-    if bad < received.len() {
-        return Look::Refused(Refusal::BitAboveOne);
+    let place = bits::first_above_one(received);
+    if place < received.len() {
+        return Look::Refused(Refusal::BitAboveOne { buffer: 0, place });
     }
     look
 }

@@ -2,10 +2,12 @@
 use mathlib.Core.Path.{_≡_, _∙_, sym, ap}
 use mathlib.Core.List.{List}
 use Prim.Native.Nat.{ℕ}
+use Rattle.sheet.specs.declared.Told.{Told}
 use Rattle.blentovar.specs.declared.SizesAnswer.{SizesAnswer}
 use Rattle.blentovar.specs.declared.DecodeAnswer.{DecodeAnswer}
 use Rattle.blentovar.specs.declared.Record.{Record}
 use Rattle.blentovar.specs.declared.KeptAnswer.{KeptAnswer}
+use Rattle.blentovar.specs.declared.DecodeKeptAnswer.{DecodeKeptAnswer}
 use Rattle.blentovar.specs.declared.ReadAnswer.{ReadAnswer}
 use Rattle.blentovar.specs.Answers.{LaidOut, SizesAs, DescribesAs, EncodesAs, DecodesAs, EditsAs, OpensAs, SplicesAs, DecodesKeptAs, MakesAs, ReadsAs}
 use Rattle.demands.proofs.OneOutcome.{sizes-one, describe-one, encode-one}
@@ -25,12 +27,12 @@ pub describe-card-one : {m t : ℕ} {lent left left′ : List ℕ} {r s : SizesA
     → (r ≡ s) × (left ≡ left′)
 describe-card-one p q = let (e, l) = describe-one (p .promised) (q .promised) in (alike p q e, l)
 
-pub encode-card-one : {m t r s : ℕ} {message lent left left′ : List ℕ} → EncodesAs m t message lent r left → EncodesAs m t message lent s left′
+pub encode-card-one : {m t : ℕ} {message lent left left′ : List ℕ} {r s : Told} → EncodesAs m t message lent r left → EncodesAs m t message lent s left′
     → (r ≡ s) × (left ≡ left′)
 encode-card-one p q = let (e, l) = encode-one (p .promised) (q .promised) in (alike p q e, l)
 
-pub edit-card-one : {m t start r s : ℕ} {lent stretch left left′ : List ℕ} → EditsAs m t lent start stretch r left → EditsAs m t lent start stretch s left′
-    → (r ≡ s) × (left ≡ left′)
+pub edit-card-one : {m t start : ℕ} {lent stretch left left′ : List ℕ} {r s : Told} → EditsAs m t lent start stretch r left
+    → EditsAs m t lent start stretch s left′ → (r ≡ s) × (left ≡ left′)
 edit-card-one p q = let (e, l) = edit-one (p .promised) (q .promised) in (alike p q e, l)
 
 pub make-card-one : {house poll counter r s : ℕ} {lent left left′ : List ℕ} → MakesAs house poll counter lent r left → MakesAs house poll counter lent s left′
@@ -42,7 +44,7 @@ pub decode-card-one : {m t : ℕ} {received lentWord lentList word list word′ 
     → (r ≡ s) × (word ≡ word′) × (list ≡ list′)
 decode-card-one p q = let (e, w, l) = decode-one (p .promised) (q .promised) in (alike p q e, w, l)
 
-pub decode-kept-card-one : (stored : Record) {lentWord lentList word list word′ list′ : List ℕ} {r s : DecodeAnswer}
+pub decode-kept-card-one : (stored : Record) {lentWord lentList word list word′ list′ : List ℕ} {r s : DecodeKeptAnswer}
     → DecodesKeptAs stored lentWord lentList r word list → DecodesKeptAs stored lentWord lentList s word′ list′
     → (r ≡ s) × (word ≡ word′) × (list ≡ list′)
 decode-kept-card-one stored p q = let (e, w, l) = decode-kept-one (p .promised) (q .promised) in (alike p q e, w, l)

@@ -9,8 +9,10 @@ use lib.ListN.{length, getD, replicate, length-replicate}
 use Rattle.sheet.specs.declared.Refusal.the-variants.{NothingNear}
 use Rattle.sheet.specs.declared.Outcome.{Outcome}
 use Rattle.sheet.specs.declared.Outcome.the-variants.{Done, Refused}
+use Rattle.sheet.specs.declared.Told.{Told}
+use Rattle.sheet.specs.Number.{outcomeTold}
 use Rattle.sheet.specs.Verdict.{finds-nothing}
-use Rattle.sheet.proofs.VerdictLaws.{does, always}
+use Rattle.sheet.proofs.VerdictLaws.{does, always, answer-is}
 use Rattle.bits.specs.Bits.{AreBits, listOf, firstAbove, flip, flipped}
 use Rattle.bits.specs.Differences.{differences, differencesFrom}
 use Rattle.bits.proofs.Lists.{length-list, list-at}
@@ -27,9 +29,14 @@ use Rattle.codes.specs.Sums.{CodeWord, sumFrom, sumOf}
 use Rattle.codes.specs.Encoding.{Encoding}
 use Rattle.codes.proofs.SumLaws.{odd-sums}
 use Rattle.codec.specs.Encode.{Encodes, encodeChecks}
+use Rattle.codec.specs.Edit.{Edits, editChecks}
 use Rattle.decode.specs.declared.Decoded.{Decoded}
 use Rattle.decode.specs.Decode.{Decodes, Mended, Mends, Far, decodeChecks}
 use Rattle.decode.proofs.DecodeLaws.{near-located}
+use Rattle.kept.specs.declared.Kept.{Kept}
+use Rattle.kept.specs.declared.Answer.{Answer}
+use Rattle.kept.specs.Record.{someAtLeast}
+use Rattle.splice.specs.Splice.{Splices, spliceChecks}
 use Rattle.demands.proofs.OneOutcome.{encode-one}
 use Rattle.demands.proofs.Near.{mendedBy, mended-is, decode-one}
 use Rattle.demands.proofs.NoSet.{zeroes, plusPlace, noSet, nothing-located}
@@ -43,6 +50,14 @@ pub data Case : Type 0 where
   far : ℕ → ℕ → List ℕ → Case
   -- m, what came in, its sums S_1, S_3, ..
   summed : ℕ → List ℕ → List ℕ → Case
+  -- m, t, a word place by place, a start, a stretch, what Edit tells
+  told-edit : ℕ → ℕ → List ℕ → ℕ → List ℕ → Told → Case
+  -- m, t, a start, a stretch, what Splice into a record of zeros tells
+  told-splice : ℕ → ℕ → ℕ → List ℕ → Told → Case
+
+-- 5, with a buffer and a place
+abbrev pub badBit : ℕ → ℕ → Told
+badBit buffer place = record { number = 5; buffer = buffer; place = place }
 
 unfoldable pub cases : List Case
 cases =
@@ -58,6 +73,9 @@ cases =
     ∷ mended 3 1 (0 ∷ 1 ∷ []) (3 ∷ []) (0 ∷ 1 ∷ 3 ∷ [])
     ∷ mended 4 2 (0 ∷ 4 ∷ 6 ∷ []) (7 ∷ 8 ∷ []) (0 ∷ 4 ∷ 6 ∷ 7 ∷ 8 ∷ [])
     ∷ summed 4 (3 ∷ []) (8 ∷ 10 ∷ [])
+    ∷ told-splice 4 3 10 (1 ∷ 0 ∷ 2 ∷ []) (badBit 0 2)
+    ∷ told-edit 4 3 (replicate 7 0 ++ (2 ∷ replicate 7 0)) 0 (3 ∷ []) (badBit 0 7)
+    ∷ told-edit 4 3 (replicate 15 0) 0 (1 ∷ 3 ∷ []) (badBit 1 1)
     ∷ []
 
 -- n bits that hold 1 at the places of a set
@@ -76,6 +94,10 @@ bitsAt-bits n ps = bits-flipped ps (bits-replicate n)
 abbrev pub nothingNear : Decoded
 nothingNear = record { outcome = Refused NothingNear; wrong = 0 }
 
+-- the record of zeros of a code
+abbrev pub zerosOf : ℕ → ℕ → Kept
+zerosOf m t = record { m = m; t = t; bits = replicate 1023 0; sums = replicate 255 0 }
+
 -- what a case says: every outcome that the promise allows is this one
 abbrev pub Holds : Case → Type 0
 Holds (sent m t message word) =
@@ -89,6 +111,8 @@ Holds (far m t received) =
     (lentWord lentList left list : List ℕ) (x : Decoded) → length lentWord ≡ nOf m → length lentList ≡ t
     → Decodes m t (bitsAt (nOf m) received) lentWord lentList x left list
     → (x ≡ nothingNear) × (left ≡ lentWord) × (list ≡ lentList)
+Holds (told-edit m t word start stretch told) = (left : List ℕ) (x : Outcome) → Edits m t word start stretch x left → outcomeTold x ≡ told
+Holds (told-splice m t start stretch told) = (x : Answer) → Splices (zerosOf m t) start stretch x → outcomeTold (x .outcome) ≡ told
 Holds (summed m received sums) = (i : ℕ) → i < length sums → sumOf m (2 * i + 1) (bitsAt (nOf m) received) ≡ getD sums i 0
 
 -- the tests
@@ -104,6 +128,11 @@ sameList (x ∷ xs) (y ∷ ys) = both (eqb x y) (sameList xs ys)
 unfoldable isDone : Outcome → Bool
 isDone Done = true
 isDone (Refused r) = false
+
+-- the checks come to an outcome of which this is told
+unfoldable tellsAs : Outcome → Told → Bool
+tellsAs v told =
+    both (eqb (outcomeTold v .number) (told .number)) (both (eqb (outcomeTold v .buffer) (told .buffer)) (eqb (outcomeTold v .place) (told .place)))
 
 unfoldable hasSums : ℕ → List ℕ → List ℕ → Bool
 hasSums m word sums = passes (λ i. eqb (sumOf m (2 * i + 1) word) (getD sums i 0)) 0 (length sums)
@@ -140,6 +169,8 @@ unfoldable test : Case → Bool
 test (sent m t message word) = all (sentTests m t message word)
 test (mended m t received places word) = all (mendedTests m t received places word)
 test (far m t received) = all (farTests m t received)
+test (told-edit m t word start stretch told) = tellsAs (codeVerdict m t (editChecks word start stretch)) told
+test (told-splice m t start stretch told) = tellsAs (codeVerdict m t (spliceChecks (zerosOf m t) start stretch)) told
 test (summed m received sums) = hasSums m (bitsAt (nOf m) received) sums
 
 -- what the tests tell
@@ -172,6 +203,21 @@ done-is : (v : Outcome) → T (isDone v) → v ≡ Done
 unfolding isDone
 done-is Done t = refl
 done-is (Refused r) t = absurd t
+
+same-told : {x y : Told} → x .number ≡ y .number → x .buffer ≡ y .buffer → x .place ≡ y .place → x ≡ y
+same-told {x} {y} n b p = ap₂ (of (x .number)) b p ∙ ap (λ (k : ℕ). of k (y .buffer) (y .place)) n
+  where
+    of : ℕ → ℕ → ℕ → Told
+    of number buffer place = record { number = number; buffer = buffer; place = place }
+
+tells-is : (v : Outcome) (told : Told) → T (tellsAs v told) → outcomeTold v ≡ told
+unfolding tellsAs
+tells-is v told t =
+    let number : Bool = eqb (outcomeTold v .number) (told .number) in
+    let buffer : Bool = eqb (outcomeTold v .buffer) (told .buffer) in
+    let place : Bool = eqb (outcomeTold v .place) (told .place) in
+    let rest = both-right number (both buffer place) t in
+    same-told (eqb→eq _ _ (both-left number (both buffer place) t)) (eqb→eq _ _ (both-left buffer place rest)) (eqb→eq _ _ (both-right buffer place rest))
 
 -- the checks look at the lengths of the lent buffers only
 encode-lent : (m t : ℕ) (message lent lent′ : List ℕ) → length lent ≡ length lent′
@@ -262,6 +308,8 @@ unfolding test
 holds (sent m t message word) b = sent-holds m t message word (all-passed (sentTests m t message word) b)
 holds (mended m t received places word) b = mended-holds m t received places word (all-passed (mendedTests m t received places word) b)
 holds (far m t received) b = far-holds m t received (all-passed (farTests m t received) b)
+holds (told-edit m t word start stretch told) b = λ left x p. ap outcomeTold (answer-is (p .promise)) ∙ tells-is _ told b
+holds (told-splice m t start stretch told) b = λ x p. ap outcomeTold (answer-is (p .promise)) ∙ tells-is _ told b
 holds (summed m received sums) b = summed-holds m received sums b
 
 -- the table
@@ -271,9 +319,9 @@ tests [] = true
 tests (c ∷ cs) = both (test c) (tests cs)
 
 tested : T (tests cases)
-unfolding tests cases test sentTests mendedTests farTests checksPass isDone isCodeWord hasSums sameList bitsAt noSet zeroes plusPlace listOf isListed
+unfolding tests cases test sentTests mendedTests farTests checksPass isDone tellsAs isCodeWord hasSums sameList bitsAt noSet zeroes plusPlace listOf isListed
     rowOf rowFrom kOf first firsts ks ts listedCodes firstAbove flip flipped differences differencesFrom sumOf sumFrom power _⊗⟨_⟩_ remainder
-    carryless horner digits shifted polynomial polynomials _⊕_
+    carryless horner digits shifted polynomial polynomials _⊕_ someAtLeast
 tested = tt
 
 each : (cs : List Case) → T (tests cs) → (c : Case) → List·Memᴰ c cs → Holds c

@@ -14,7 +14,7 @@ use Rattle.sheet.specs.declared.Outcome.the-variants.{Done}
 use Rattle.sheet.specs.declared.Refusal.the-variants.{InputLength, OutputLength, BitAboveOne, RecordContents}
 use Rattle.sheet.specs.Verdict.{Check, _⇒_, verdict, Searches, finds, finds-nothing}
 use Rattle.sheet.proofs.VerdictLaws.{equal, done-passed}
-use Rattle.bits.specs.Bits.{AreBits, hasBadBit, runsPast}
+use Rattle.bits.specs.Bits.{AreBits, firstAbove, hasBadBit, runsPast}
 use Rattle.bits.specs.Differences.{differences}
 use Rattle.bits.proofs.BitLaws.{not-bad}
 use Rattle.bits.proofs.DistanceLaws.{differences-front}
@@ -143,7 +143,8 @@ module _ {stored : Kept} (F : Faithful stored) (lentWord lentList : List ℕ) wh
   same-verdict =
       let word : Check = not (eqb (length lentWord) (nOf (stored .m))) ⇒ OutputLength in
       let list : Check = not (eqb (length lentList) (stored .t)) ⇒ OutputLength in
-      ap₂ (λ (long bad : Bool). verdict (codeChecks (stored .m) (stored .t) (long ⇒ InputLength ∷ word ∷ list ∷ bad ⇒ BitAboveOne ∷ [])))
+      let at = firstAbove (kept-word stored) in
+      ap₂ (λ (long bad : Bool). verdict (codeChecks (stored .m) (stored .t) (long ⇒ InputLength ∷ word ∷ list ∷ bad ⇒ BitAboveOne 0 at ∷ [])))
       (equal (word-long F)) (not-bad (F .bits))
       ∙ sym (ap (λ (bad : Bool). verdict (codeChecks (stored .m) (stored .t) (bad ⇒ RecordContents ∷ word ∷ list ∷ []))) (passes F))
 

@@ -8,9 +8,9 @@ use Rattle.sheet.specs.declared.Refusal.{Refusal}
 use Rattle.sheet.specs.declared.Refusal.the-variants.{NothingNear}
 use Rattle.sheet.specs.declared.Outcome.{Outcome}
 use Rattle.sheet.specs.declared.Outcome.the-variants.{Done, Refused}
-use Rattle.sheet.specs.Number.{numberOf}
+use Rattle.sheet.specs.Number.{outcomeTold, numberOf}
 use Rattle.sheet.specs.Verdict.{verdict}
-use Rattle.sheet.proofs.NumberLaws.{number-tells}
+use Rattle.sheet.proofs.NumberLaws.{number-tells, outcome-tells}
 use Rattle.sheet.proofs.VerdictLaws.{answer-is, refused-stays, always-stays}
 use Rattle.bits.specs.Bits.{AreBits}
 use Rattle.field.specs.Product.{IsField}
@@ -38,7 +38,7 @@ use Rattle.frame.specs.declared.reading.ReadFrame.{ReadFrame}
 use Rattle.frame.specs.Read.{Reads, frameChecks}
 use Rattle.lister.specs.Listing.{Lines, Steps, framesOf}
 use Rattle.maker.specs.Making.{allLines, GiveAll}
-use Rattle.demands.specs.Words.{OneOutcome, NeverStruck, OneCondition, RefusedStays, NeverLookedAt}
+use Rattle.demands.specs.Words.{OneOutcome, NeverStruck, TellsWhich, NeverBadBit, OneCondition, RefusedStays, NeverLookedAt}
 use Rattle.demands.specs.Words.{Numbered, GaloisField, Divides, LeastCommonMultiple, Received, PassesAgain}
 use Rattle.demands.specs.Words.{After, resulting, Elsewhere, editedMessage, OnlyStretch, joined, EndsShort, MakingRun}
 use Rattle.demands.proofs.TheCode.{checks-by-rule, k-by-rule, codes-in-number, sizes-by-rule, sizes-n, sizes-as-described, the-field, all-ones}
@@ -54,6 +54,7 @@ use Rattle.demands.proofs.TypedOutcome.{typed-one}
 use Rattle.demands.proofs.MakingOutcome.{give-all-one, run-gives}
 use Rattle.demands.proofs.Exactly.{decode-refused, decode-nothing, decode-kept-refused, decode-kept-nothing, read-refused, read-nothing}
 use Rattle.demands.proofs.Struck.{never-answered, mended-again}
+use Rattle.demands.proofs.BadBit.{tells-which, never-bad-bit}
 use Rattle.demands.proofs.Stays.{sizes-stays, describe-stays, decode-stays, decode-kept-stays, read-stays}
 use Rattle.demands.proofs.Lent.{describe-lent, encode-lent, decode-lent, decode-kept-lent, make-lent}
 
@@ -83,8 +84,20 @@ demand-1 =
     }
 
 -- docs/SCOPE.md 9: "Each refusal has one number and one condition;"
-pub demand-1-numbers : {r s : Refusal} → numberOf r ≡ numberOf s → r ≡ s
-demand-1-numbers e = number-tells e
+pub demand-1-numbers : {r s : Refusal} → numberOf r ≡ numberOf s → numberOf r ≢ 5 → r ≡ s
+demand-1-numbers e n = number-tells e n
+
+-- With 5 stand a buffer and a place, and then the three tell it: no two outcomes are told alike.
+pub demand-1-told : (x y : Outcome) → outcomeTold x ≡ outcomeTold y → x ≡ y
+demand-1-told x y e = outcome-tells x y e
+
+-- docs/SCOPE.md 5.1: "With 5 come a buffer and the first place in it, as it was lent, that holds more than 1."
+pub demand-1-which : TellsWhich
+demand-1-which = tells-which
+
+-- Under the other C names nothing is answered there, since 5 never comes.
+pub demand-1-only : NeverBadBit
+demand-1-only = never-bad-bit
 
 -- docs/SCOPE.md 5.1: "8 is struck: no refusal has this number, and none will get it again." Under no C name is it answered.
 pub demand-1-struck : NeverStruck

@@ -15,6 +15,7 @@ pub mod Cases
 pub mod CardOutcome
 pub mod Exactly
 pub mod Struck
+pub mod BadBit
 pub mod Stays
 pub mod Lent
 pub mod Demands

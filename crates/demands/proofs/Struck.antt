@@ -7,7 +7,8 @@ use native.Mathlib.Omega.{arith}
 use lib.ListN.{replicate, length-replicate}
 use Rattle.sheet.specs.declared.Outcome.{Outcome}
 use Rattle.sheet.specs.declared.Outcome.the-variants.{Done}
-use Rattle.sheet.specs.Number.{outcomeNumber, struck}
+use Rattle.sheet.specs.declared.Told.{Told}
+use Rattle.sheet.specs.Number.{outcomeTold, outcomeNumber, struck}
 use Rattle.sheet.proofs.NumberLaws.{outcome-never-struck}
 use Rattle.sheet.proofs.VerdictLaws.{equal, done-passed}
 use Rattle.bits.proofs.BitLaws.{not-bad, zeros-at}
@@ -24,8 +25,9 @@ use Rattle.frame.specs.declared.reading.ReadFrame.{ReadFrame}
 use Rattle.blentovar.specs.declared.SizesAnswer.{SizesAnswer}
 use Rattle.blentovar.specs.declared.DecodeAnswer.{DecodeAnswer}
 use Rattle.blentovar.specs.declared.KeptAnswer.{KeptAnswer}
+use Rattle.blentovar.specs.declared.DecodeKeptAnswer.{DecodeKeptAnswer}
 use Rattle.blentovar.specs.declared.ReadAnswer.{ReadAnswer}
-use Rattle.blentovar.specs.Layout.{sizesAnswer, decodeAnswer, keptAnswer}
+use Rattle.blentovar.specs.Layout.{sizesAnswer, keptAnswer}
 use Rattle.blentovar.specs.Answers.{LaidOut}
 use Rattle.demands.specs.Words.{NeverStruck, PassesAgain}
 use Rattle.demands.proofs.Near.{decode-received}
@@ -41,24 +43,21 @@ never-answered =
     record {
       sizes = λ p. sized p;
       describe = λ p. sized p;
-      encode = λ p. numbered p;
-      decode = λ p. decoded p;
-      edit = λ p. numbered p;
+      encode = λ p. told p;
+      decode = λ p. never (λ (r : DecodeAnswer). r .number) (λ (x : Decoded). x .outcome) (λ x. refl) p;
+      edit = λ p. told p;
       opening = λ p. kept p;
       splice = λ stored p. kept p;
-      decode-kept = λ stored p. decoded p;
-      make-frame = λ p. numbered p;
+      decode-kept = λ stored p. never (λ (r : DecodeKeptAnswer). r .number) (λ (x : Decoded). x .outcome) (λ x. refl) p;
+      make-frame = λ p. never (λ (r : ℕ). r) (λ (x : Outcome). x) (λ x. refl) p;
       read-frame = λ frame p. never (λ (r : ReadAnswer). r .number) (λ (x : ReadFrame). x .outcome) (λ x. refl) p;
     }
   where
-    numbered : {P : Outcome → Type 0} {r : ℕ} → LaidOut outcomeNumber P r → r ≢ struck
-    numbered p = never (λ (r : ℕ). r) (λ (x : Outcome). x) (λ x. refl) p
+    told : {P : Outcome → Type 0} {r : Told} → LaidOut outcomeTold P r → r .number ≢ struck
+    told p = never (λ (r : Told). r .number) (λ (x : Outcome). x) (λ x. refl) p
 
     sized : {P : Described → Type 0} {r : SizesAnswer} → LaidOut sizesAnswer P r → r .number ≢ struck
     sized p = never (λ (r : SizesAnswer). r .number) (λ (x : Described). x .outcome) (λ x. refl) p
-
-    decoded : {P : Decoded → Type 0} {r : DecodeAnswer} → LaidOut decodeAnswer P r → r .number ≢ struck
-    decoded p = never (λ (r : DecodeAnswer). r .number) (λ (x : Decoded). x .outcome) (λ x. refl) p
 
     kept : {P : Answer → Type 0} {r : KeptAnswer} → LaidOut keptAnswer P r → r .number ≢ struck
     kept p = never (λ (r : KeptAnswer). r .number) (λ (x : Answer). x .outcome) (λ x. refl) p

@@ -10,6 +10,7 @@ use Rattle.sheet.specs.declared.Refusal.{Refusal}
 use Rattle.sheet.specs.declared.Refusal.the-variants.{NothingNear, FrameLength}
 use Rattle.sheet.specs.declared.Outcome.{Outcome}
 use Rattle.sheet.specs.declared.Outcome.the-variants.{Done, Refused}
+use Rattle.sheet.specs.declared.Told.{Told}
 use Rattle.sheet.specs.Number.{struck}
 use Rattle.sheet.specs.Verdict.{verdict}
 use Rattle.bits.specs.Bits.{AreBits, hasBadBit, runsPast}
@@ -43,6 +44,7 @@ use Rattle.blentovar.specs.declared.SizesAnswer.{SizesAnswer}
 use Rattle.blentovar.specs.declared.DecodeAnswer.{DecodeAnswer}
 use Rattle.blentovar.specs.declared.Record.{Record}
 use Rattle.blentovar.specs.declared.KeptAnswer.{KeptAnswer}
+use Rattle.blentovar.specs.declared.DecodeKeptAnswer.{DecodeKeptAnswer}
 use Rattle.blentovar.specs.declared.ReadAnswer.{ReadAnswer}
 use Rattle.blentovar.specs.Answers.{SizesAs, DescribesAs, EncodesAs, DecodesAs, EditsAs, OpensAs, SplicesAs, DecodesKeptAs, MakesAs, ReadsAs}
 use Rattle.line.specs.Line.{refusedLine}
@@ -87,16 +89,51 @@ pub record OneOutcome : Type 0 where
 pub record NeverStruck : Type 0 where
   pub sizes : {m t : ℕ} {r : SizesAnswer} → SizesAs m t r → r .number ≢ struck
   pub describe : {m t : ℕ} {lent left : List ℕ} {r : SizesAnswer} → DescribesAs m t lent r left → r .number ≢ struck
-  pub encode : {m t r : ℕ} {message lent left : List ℕ} → EncodesAs m t message lent r left → r ≢ struck
+  pub encode : {m t : ℕ} {message lent left : List ℕ} {r : Told} → EncodesAs m t message lent r left → r .number ≢ struck
   pub decode : {m t : ℕ} {received lentWord lentList word list : List ℕ} {r : DecodeAnswer} → DecodesAs m t received lentWord lentList r word list
       → r .number ≢ struck
-  pub edit : {m t start r : ℕ} {lent stretch left : List ℕ} → EditsAs m t lent start stretch r left → r ≢ struck
+  pub edit : {m t start : ℕ} {lent stretch left : List ℕ} {r : Told} → EditsAs m t lent start stretch r left → r .number ≢ struck
   pub opening : {m t : ℕ} {word : List ℕ} {r : KeptAnswer} → OpensAs m t word r → r .number ≢ struck
   pub splice : (stored : Record) {start : ℕ} {stretch : List ℕ} {r : KeptAnswer} → SplicesAs stored start stretch r → r .number ≢ struck
-  pub decode-kept : (stored : Record) {lentWord lentList word list : List ℕ} {r : DecodeAnswer} → DecodesKeptAs stored lentWord lentList r word list
+  pub decode-kept : (stored : Record) {lentWord lentList word list : List ℕ} {r : DecodeKeptAnswer} → DecodesKeptAs stored lentWord lentList r word list
       → r .number ≢ struck
   pub make-frame : {house poll counter r : ℕ} {lent left : List ℕ} → MakesAs house poll counter lent r left → r ≢ struck
   pub read-frame : (frame : List ℕ) {r : ReadAnswer} → ReadsAs frame r → r .number ≢ struck
+
+-- A place of one of the buffers, which stand in the order in which they are looked at. It lies in its buffer and holds more than 1; all that stands before
+-- it there, and every buffer before, holds 0 or 1.
+pub record FirstBad (buffers : List (List ℕ)) (buffer place : ℕ) : Type 0 where
+  pub is-lent : buffer < length buffers
+  pub within : place < length (getD buffers buffer [])
+  pub above : 1 < getD (getD buffers buffer []) place 0
+  pub before : (i : ℕ) → i < place → getD (getD buffers buffer []) i 0 ≤ 1
+  pub earlier : (b : ℕ) → b < buffer → AreBits (getD buffers b [])
+
+-- with 5 the first bad place of the buffers is told, with every other number 0 and 0
+pub record Tells (buffers : List (List ℕ)) (number buffer place : ℕ) : Type 0 where
+  pub which : number ≡ 5 → FirstBad buffers buffer place
+  pub zeros : number ≢ 5 → (buffer ≡ 0) × (place ≡ 0)
+
+-- every call of the library that can be refused 5, with the buffers whose bits it looks at
+pub record TellsWhich : Type 0 where
+  pub encode : {m t : ℕ} {message lent left : List ℕ} {r : Told} → EncodesAs m t message lent r left
+      → Tells (message ∷ []) (r .number) (r .buffer) (r .place)
+  pub decode : {m t : ℕ} {received lentWord lentList word list : List ℕ} {r : DecodeAnswer} → DecodesAs m t received lentWord lentList r word list
+      → Tells (received ∷ []) (r .number) (r .buffer) (r .place)
+  pub edit : {m t start : ℕ} {lent stretch left : List ℕ} {r : Told} → EditsAs m t lent start stretch r left
+      → Tells (lent ∷ stretch ∷ []) (r .number) (r .buffer) (r .place)
+  pub opening : {m t : ℕ} {word : List ℕ} {r : KeptAnswer} → OpensAs m t word r → Tells (word ∷ []) (r .number) (r .buffer) (r .place)
+  pub splice : (stored : Record) {start : ℕ} {stretch : List ℕ} {r : KeptAnswer} → SplicesAs stored start stretch r
+      → Tells (stretch ∷ []) (r .number) (r .buffer) (r .place)
+
+-- every other call of the library is never refused 5
+pub record NeverBadBit : Type 0 where
+  pub sizes : {m t : ℕ} {r : SizesAnswer} → SizesAs m t r → r .number ≢ 5
+  pub describe : {m t : ℕ} {lent left : List ℕ} {r : SizesAnswer} → DescribesAs m t lent r left → r .number ≢ 5
+  pub decode-kept : (stored : Record) {lentWord lentList word list : List ℕ} {r : DecodeKeptAnswer} → DecodesKeptAs stored lentWord lentList r word list
+      → r .number ≢ 5
+  pub make-frame : {house poll counter r : ℕ} {lent left : List ℕ} → MakesAs house poll counter lent r left → r ≢ 5
+  pub read-frame : (frame : List ℕ) {r : ReadAnswer} → ReadsAs frame r → r .number ≢ 5
 
 -- The outcome is what the checks come to. Where an operation searches once they have passed, a refusal is that of a check, or it is 6 and there is nothing
 -- to find; of a frame, also what the lead of the code word near it comes to.

@@ -15,7 +15,7 @@ struct Step {
     tally: Tally,
 }
 
-// The number of the answer and the first t sums of its record are mixed in.
+// What the answer tells and the first t sums of its record are mixed in.
 fn noted(code: Code, answer: Answer, tally: Tally) -> Step
     requires { ⌜ Known code ⌝ }
 {
@@ -48,7 +48,7 @@ fn splice_some(code: Code, step: Step) -> Step
     splice(code, Step { record, tally }, stretch.start, &bits[..long])
 }
 
-// Opens the word and splices five times. The last two splices are refused: one runs a bit past the end, and the other has a bit above 1.
+// Opens the word and splices five times. The last two splices are refused: one runs a bit past the end, and the other has a bit above 1 at its place 2.
 fn open_and_splice(code: Code, word: &[u8], tally: Tally) -> Step
     requires { ⌜ Known code ⌝ }
 {
@@ -57,7 +57,7 @@ fn open_and_splice(code: Code, word: &[u8], tally: Tally) -> Step
     step = splice_some(code, step);
     step = splice_some(code, step);
     step = splice(code, step, code.n, b"\x01");
-    splice(code, step, 0, b"\x02")
+    splice(code, step, 4, b"\x01\x00\x02")
 }
 
 fn decode_into(record: Kept, word: &mut [u8], list: &mut [u16], tally: Tally) -> Tally {

@@ -35,8 +35,12 @@ fn with_number(mut tally: Tally, number: u64) -> Tally {
     tally
 }
 
+// The number, the buffer and the place.
 pub(crate) fn with_outcome(tally: Tally, outcome: Outcome) -> Tally {
-    with_number(tally, sheet::outcome_number(outcome) as u64)
+    let told = sheet::tell_outcome(outcome);
+    let numbered = with_number(tally, told.number as u64);
+    let buffered = with_number(numbered, told.buffer as u64);
+    with_number(buffered, told.place as u64)
 }
 
 pub(crate) fn with_word(tally: Tally, word: &[u8]) -> Tally {

@@ -8,7 +8,7 @@ use lib.Dec.{eqb}
 use lib.ListN.{length, replicate}
 use Rattle.sheet.specs.declared.Refusal.the-variants.{InputLength, BitAboveOne}
 use Rattle.sheet.specs.Verdict.{Check, _⇒_, Always}
-use Rattle.bits.specs.Bits.{hasBadBit}
+use Rattle.bits.specs.Bits.{firstAbove, hasBadBit}
 use Rattle.codes.specs.declared.Code.{Code}
 use Rattle.codes.specs.Look.{CodePromise}
 use Rattle.sums.specs.OddSums.{OddSums}
@@ -19,7 +19,7 @@ use Rattle.kept.specs.Record.{zeroKept}
 abbrev pub openChecks : List ℕ → Code → List Check
 openChecks word c =
     not (eqb (length word) (c .n)) ⇒ InputLength
-    ∷ hasBadBit word ⇒ BitAboveOne
+    ∷ hasBadBit word ⇒ BitAboveOne 0 (firstAbove word)
     ∷ []
 
 -- the word, then zeros; its first t odd sums, then zeros

@@ -46,9 +46,9 @@ fn checks(m: usize, t: usize, word: &[u8]) -> Look
     if word.len() != code.n {
         return Look::Refused(Refusal::InputLength);
     }
-    let bad = bits::first_above_one(word);
-    if bad < word.len() {
-        return Look::Refused(Refusal::BitAboveOne);
+    let place = bits::first_above_one(word);
+    if place < word.len() {
+        return Look::Refused(Refusal::BitAboveOne { buffer: 0, place });
     }
     look
 }

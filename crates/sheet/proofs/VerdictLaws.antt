@@ -148,6 +148,17 @@ never-refused ((true ⇒ s) ∷ later) r (p, n) e =
     T-not (eqb (numberOf s) (numberOf r)) p (subst (λ (x : Refusal). T (eqb (numberOf s) (numberOf x))) (same-refusal e) (eqb-refl (numberOf s)))
 never-refused ((false ⇒ s) ∷ later) r (p, n) e = never-refused later r n e
 
+-- P holds of the refusal of each check that can be the first to refuse
+abbrev pub Each : (Refusal → Type 0) → List Check → Type 0
+Each P [] = Unit {0}
+Each P ((b ⇒ r) ∷ later) = (b ≡ true → P r) × (b ≡ false → Each P later)
+
+-- so it holds of the refusal that the checks come to
+pub refused-each : (P : Refusal → Type 0) (checks : List Check) {r : Refusal} → Each P checks → verdict checks ≡ Refused r → P r
+refused-each P [] p e = absurd (not-done (sym e))
+refused-each P ((true ⇒ s) ∷ later) (here, p) e = subst P (same-refusal e) (here refl)
+refused-each P ((false ⇒ s) ∷ later) (here, p) e = refused-each P later (p refl) e
+
 -- where a refusal of an operation that searches comes from: a check, or 6 and there is nothing to find
 module _ {L : Type 0} {Found : L → Type 0} {Nothing : Type 0} {stays : L} {checks : List Check} {answer : Outcome} {left : L}
     (p : Promise checks (Searches Found Nothing stays) stays answer left) where

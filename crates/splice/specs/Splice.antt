@@ -1,6 +1,7 @@
 -- Splice. docs/SCOPE.md 4.9: "Takes a kept record, a start place and a stretch. Gives the record with these places replaced and, to each of the first t
 -- stored sums, the sum over the places that changed added, also in a record built by hand; all else is as it was."
--- 5.2: its checks are 1, 2, 7, 12, 5. 5.3: "a refused Splice gives back the record it got".
+-- 5.1: "With 5 come a buffer and the first place in it, as it was lent, that holds more than 1." 5.2: its checks are 1, 2, 7, 12, 5.
+-- 5.3: "a refused Splice gives back the record it got".
 use mathlib.Core.Path.{_≡_}
 use mathlib.Core.List.{List, [], _∷_}
 use Prim.Native.Nat.{ℕ, _+_, _*_, _≤_, _<_}
@@ -8,7 +9,7 @@ use lib.ListN.{length, getD}
 use lib.Seq.{paste}
 use Rattle.sheet.specs.declared.Refusal.the-variants.{BitAboveOne, RecordContents, StretchEnd}
 use Rattle.sheet.specs.Verdict.{Check, _⇒_, Always}
-use Rattle.bits.specs.Bits.{hasBadBit, runsPast}
+use Rattle.bits.specs.Bits.{firstAbove, hasBadBit, runsPast}
 use Rattle.bits.specs.Differences.{differences}
 use Rattle.field.specs.Sum.{_⊕_}
 use Rattle.codes.specs.declared.Code.{Code}
@@ -22,7 +23,7 @@ abbrev pub spliceChecks : Kept → ℕ → List ℕ → Code → List Check
 spliceChecks stored start stretch c =
     badRecord c stored ⇒ RecordContents
     ∷ runsPast start (length stretch) (c .n) ⇒ StretchEnd
-    ∷ hasBadBit stretch ⇒ BitAboveOne
+    ∷ hasBadBit stretch ⇒ BitAboveOne 0 (firstAbove stretch)
     ∷ []
 
 -- S_(2i+1) plus the sum over the places that changed

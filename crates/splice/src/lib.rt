@@ -43,9 +43,9 @@ fn checks(stored: Kept, start: usize, stretch: &[u8]) -> Look
     if past {
         return Look::Refused(Refusal::StretchEnd);
     }
-    let bad = bits::first_above_one(stretch);
-    if bad < stretch.len() {
-        return Look::Refused(Refusal::BitAboveOne);
+    let place = bits::first_above_one(stretch);
+    if place < stretch.len() {
+        return Look::Refused(Refusal::BitAboveOne { buffer: 0, place });
     }
     look
 }

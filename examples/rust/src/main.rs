@@ -1,6 +1,6 @@
-//! What a program does with Blentovar: it mends a word, reads a damaged frame, and says a refusal in words.
+//! What a program does with Blentovar: it mends a word, reads a damaged frame, and says two refusals in words.
 
-use blentovar::{decode, encode, frame_of, read_frame, sizes, Reading, Refusal};
+use blentovar::{decode, edit, encode, frame_of, read_frame, sizes, Reading, Refusal};
 use std::error::Error;
 use std::process::ExitCode;
 
@@ -17,7 +17,8 @@ fn main() -> ExitCode {
 fn run() -> Result<(), Box<dyn Error>> {
     mend_a_word(4, 3)?;
     read_a_damaged_frame()?;
-    be_refused()
+    be_refused()?;
+    be_told_which_bit()
 }
 
 fn mend_a_word(m: usize, t: usize) -> Result<(), Box<dyn Error>> {
@@ -79,5 +80,16 @@ fn be_refused() -> Result<(), Box<dyn Error>> {
         }
         Err(other) => Err(other.into()),
         Ok(_) => Err("a word far from every code word was mended".into()),
+    }
+}
+
+fn be_told_which_bit() -> Result<(), Box<dyn Error>> {
+    match edit(4, 3, &mut [0; 15], 0, &[1, 3]) {
+        Err(refusal @ Refusal::BitAboveOne { .. }) => {
+            println!("refused {}: {refusal}", refusal.number());
+            Ok(())
+        }
+        Err(other) => Err(other.into()),
+        Ok(()) => Err("a stretch that holds 3 was taken".into()),
     }
 }

@@ -9,8 +9,8 @@ kept-of-requires c κs = search needs
 decode-kept-requires : tie.Need-decode-kept-requires
 decode-kept-requires c κs = search needs
 
-decode-answer-requires : tie.Need-decode-answer-requires
-decode-answer-requires c κs = search needs
+decode-kept-answer-requires : tie.Need-decode-kept-answer-requires
+decode-kept-answer-requires c κs = search needs
 
 same-length : tie.Need-same-length
 same-length c = search needs
@@ -22,7 +22,7 @@ returns : tie.Need-returns
 returns c =
     let decoded = c .before .before .before .before .before in
     let taken = decoded .before .before .before in
-    record { answer = _; promised = rw (taken .kept-of .ensures) at (decoded .decode-kept .ensures); is = c .decode-answer .ensures }
+    record { answer = _; promised = rw (taken .kept-of .ensures) at (decoded .decode-kept .ensures); is = c .decode-kept-answer .ensures }
 
 pub blentovar-decode-kept-spec : {M : Type 1} → statement M
 blentovar-decode-kept-spec =
@@ -30,7 +30,7 @@ blentovar-decode-kept-spec =
     (tie.spec
     kept-of-requires
     decode-kept-requires
-    decode-answer-requires
+    decode-kept-answer-requires
     same-length
     same-length-2
     returns)

@@ -1,7 +1,7 @@
 -- The checks in the order of the sheet.
 use Rattle.sheet.proofs.VerdictLaws.{equal, unequal}
 use Rattle.bits.proofs.BitLaws.{bad-bit, no-bad-bit}
-use Rattle.codes.proofs.CheckLaws.{not-found, then-refused, then-passes}
+use Rattle.codes.proofs.CheckLaws.{not-found, then-refused, then-passes, names-place}
 use borrow.Author.Needs.{needs}
 use Rattle.decode.proofs.checks.Statement.{statement}
 use Rattle.decode.proofs.checks.Tie as tie
@@ -46,9 +46,9 @@ returns-5 c =
     let output = places .before .before in
     let input = output .before .before in
     let found = input .before .before .before in
-    let bad = bad-bit _ (c .before .first-above-one .ensures) (c .if4 .taken) in
+    let at = c .before .first-above-one .ensures in
     then-refused (found .look .given .1) (found .before .before .look-up .ensures)
-    (rw (equal (input .if1 .left), equal (output .if2 .left), equal (places .if3 .left), bad))
+    (rw (equal (input .if1 .left), equal (output .if2 .left), equal (places .if3 .left), bad-bit _ at (c .if4 .taken)) (names-place 0 at))
 
 returns-6 : tie.Need-returns-6
 returns-6 c =

@@ -1,7 +1,7 @@
 -- The checks in the order of the sheet.
 use mathlib.Core.Path.{_∙_, sym}
 use Rattle.bits.proofs.BitLaws.{bad-bit, no-bad-bit}
-use Rattle.codes.proofs.CheckLaws.{passed-known, not-found, then-refused, then-passes}
+use Rattle.codes.proofs.CheckLaws.{passed-known, not-found, then-refused, then-passes, names-place}
 use borrow.Author.Needs.{needs}
 use Rattle.splice.proofs.checks.Statement.{statement}
 use Rattle.splice.proofs.checks.Tie as tie
@@ -53,8 +53,9 @@ returns-4 c =
     let found = looked .before .before in
     let right = sym (looked .is-bad .ensures) ∙ sound .if1 .left in
     let within = sym (ends .before .runs-past .ensures) ∙ ends .if2 .left in
-    let bad = bad-bit _ (c .before .first-above-one .ensures) (c .if3 .taken) in
-    then-refused (found .look .given .1) (found .before .before .look-up .ensures) (rw (right, within, bad))
+    let at = c .before .first-above-one .ensures in
+    then-refused (found .look .given .1) (found .before .before .look-up .ensures)
+    (rw (right, within, bad-bit _ at (c .if3 .taken)) (names-place 0 at))
 
 returns-5 : tie.Need-returns-5
 returns-5 c =

@@ -2,7 +2,7 @@
 use mathlib.Core.Path.{_∙_, sym}
 use Rattle.sheet.proofs.VerdictLaws.{equal, unequal}
 use Rattle.bits.proofs.BitLaws.{bad-bit, no-bad-bit}
-use Rattle.codes.proofs.CheckLaws.{not-found, then-refused, then-passes}
+use Rattle.codes.proofs.CheckLaws.{not-found, then-refused, then-passes, names-place}
 use borrow.Author.Needs.{needs}
 use Rattle.codec.proofs.editing.checks.Statement.{statement}
 use Rattle.codec.proofs.editing.checks.Tie as tie
@@ -43,8 +43,9 @@ returns-4 c =
     let long = ends .before .before in
     let found = long .before .before .before in
     let within = sym (ends .before .runs-past .ensures) ∙ ends .if2 .left in
-    let bad = bad-bit _ (c .before .first-above-one .ensures) (c .if3 .taken) in
-    then-refused (found .look .given .1) (found .before .before .look-up .ensures) (rw (equal (long .if1 .left), within, bad))
+    let at = c .before .first-above-one .ensures in
+    then-refused (found .look .given .1) (found .before .before .look-up .ensures)
+    (rw (equal (long .if1 .left), within, bad-bit _ at (c .if3 .taken)) (names-place 0 at))
 
 first-above-one-requires-2 : tie.Need-first-above-one-requires-2
 first-above-one-requires-2 c κs = search needs
@@ -57,8 +58,9 @@ returns-5 c =
     let found = long .before .before .before in
     let within = sym (ends .before .runs-past .ensures) ∙ ends .if2 .left in
     let good = no-bad-bit _ (word .before .first-above-one .ensures) (word .if3 .left) in
-    let bad = bad-bit _ (c .before .first-above-one2 .ensures) (c .if4 .taken) in
-    then-refused (found .look .given .1) (found .before .before .look-up .ensures) (rw (equal (long .if1 .left), within, good, bad))
+    let at = c .before .first-above-one2 .ensures in
+    then-refused (found .look .given .1) (found .before .before .look-up .ensures)
+    (rw (equal (long .if1 .left), within, good, bad-bit _ at (c .if4 .taken)) (names-place 1 at))
 
 returns-6 : tie.Need-returns-6
 returns-6 c =

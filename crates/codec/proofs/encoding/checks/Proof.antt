@@ -1,7 +1,7 @@
 -- The checks in the order of the sheet.
 use Rattle.sheet.proofs.VerdictLaws.{equal, unequal}
 use Rattle.bits.proofs.BitLaws.{bad-bit, no-bad-bit}
-use Rattle.codes.proofs.CheckLaws.{not-found, then-refused, then-passes}
+use Rattle.codes.proofs.CheckLaws.{not-found, then-refused, then-passes, names-place}
 use borrow.Author.Needs.{needs}
 use Rattle.codec.proofs.encoding.checks.Statement.{statement}
 use Rattle.codec.proofs.encoding.checks.Tie as tie
@@ -37,8 +37,9 @@ returns-4 c =
     let second = c .before .before in
     let first = second .before .before in
     let found = first .before .before .before in
-    let bad = bad-bit _ (c .before .first-above-one .ensures) (c .if3 .taken) in
-    then-refused (found .look .given .1) (found .before .before .look-up .ensures) (rw (equal (first .if1 .left), equal (second .if2 .left), bad))
+    let at = c .before .first-above-one .ensures in
+    then-refused (found .look .given .1) (found .before .before .look-up .ensures)
+    (rw (equal (first .if1 .left), equal (second .if2 .left), bad-bit _ at (c .if3 .taken)) (names-place 0 at))
 
 returns-5 : tie.Need-returns-5
 returns-5 c =

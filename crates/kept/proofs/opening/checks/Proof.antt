@@ -1,7 +1,7 @@
 -- The checks in the order of the sheet.
 use Rattle.sheet.proofs.VerdictLaws.{equal, unequal}
 use Rattle.bits.proofs.BitLaws.{bad-bit, no-bad-bit}
-use Rattle.codes.proofs.CheckLaws.{not-found, then-refused, then-passes}
+use Rattle.codes.proofs.CheckLaws.{not-found, then-refused, then-passes, names-place}
 use borrow.Author.Needs.{needs}
 use Rattle.kept.proofs.opening.checks.Statement.{statement}
 use Rattle.kept.proofs.opening.checks.Tie as tie
@@ -30,8 +30,9 @@ returns-3 : tie.Need-returns-3
 returns-3 c =
     let long = c .before .before in
     let found = long .before .before .before in
-    let bad = bad-bit _ (c .before .first-above-one .ensures) (c .if2 .taken) in
-    then-refused (found .look .given .1) (found .before .before .look-up .ensures) (rw (equal (long .if1 .left), bad))
+    let at = c .before .first-above-one .ensures in
+    then-refused (found .look .given .1) (found .before .before .look-up .ensures)
+    (rw (equal (long .if1 .left), bad-bit _ at (c .if2 .taken)) (names-place 0 at))
 
 returns-4 : tie.Need-returns-4
 returns-4 c =
