@@ -27,8 +27,8 @@ impl Outcome {
     pub fn proved<T>(answer: &Result<T, blentovar::Refusal>) -> Outcome {
         Outcome::new(match answer {
             Ok(_) => plain(0),
-            Err(blentovar::Refusal::BitAboveOne { buffer, place }) => sheet::Refusal {
-                number: 5,
+            Err(refusal @ blentovar::Refusal::BitAboveOne { buffer, place }) => sheet::Refusal {
+                number: refusal.number(),
                 buffer: *buffer as usize,
                 place: *place,
             },

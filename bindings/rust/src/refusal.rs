@@ -145,6 +145,14 @@ mod tests {
     use super::Refusal;
 
     #[test]
+    fn each_number_is_that_of_its_refusal() {
+        assert_eq!(Refusal::check(0), Ok(()));
+        for number in (1..=12).filter(|number| *number != 8) {
+            assert_eq!(Refusal::check(number).map_err(Refusal::number), Err(number));
+        }
+    }
+
+    #[test]
     #[should_panic(expected = "a number of the sheet")]
     fn the_struck_number_is_no_refusal() {
         let _ = Refusal::check(8);

@@ -7,7 +7,8 @@ use mathlib.Core.Logic.{_≢_, _⊎_, inl, inr}
 use Prim.Native.Nat.{ℕ, zero, suc, _<_}
 use native.Mathlib.Omega.{arith}
 use borrow.Author.Tests.{ltb-true}
-use lib.Dec.{T, eqb, eqb-refl, T-not}
+use mir.Facts.{eqb-no}
+use lib.Dec.{T, eqb}
 use lib.ListN.{length, getD}
 use Rattle.sheet.specs.declared.Refusal.{Refusal}
 use Rattle.sheet.specs.declared.Refusal.the-variants.{NothingNear, BitAboveOne}
@@ -91,8 +92,7 @@ second xs ys bits e =
 
 -- a check of another number
 other : {buffers : List (List ℕ)} {r : Refusal} {b : Bool} → T (not (eqb (numberOf r) 5)) → b ≡ true → Names buffers r
-other {buffers} {r} n e =
-    record { which = λ f. absurd (T-not (eqb (numberOf r) 5) n (subst (λ (k : ℕ). T (eqb (numberOf r) k)) f (eqb-refl (numberOf r)))) }
+other n e = record { which = λ f. absurd (eqb-no n f) }
 
 -- a check of lent bits
 bad : {buffers : List (List ℕ)} {buffer place : ℕ} → FirstBad buffers buffer place → Names buffers (BitAboveOne buffer place)

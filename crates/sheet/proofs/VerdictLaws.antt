@@ -6,7 +6,8 @@ use mathlib.Core.Logic.{_≢_, _↔_, _⊎_, inl, inr}
 use Prim.Native.Nat.{ℕ}
 use native.Mathlib.Omega.{arith}
 use borrow.Author.Tests.{eq-eqb, ne-eqb, eqb-true, not-false}
-use lib.Dec.{T, eqb, eqb-refl, T-not}
+use mir.Facts.{eqb-no}
+use lib.Dec.{T, eqb}
 use Rattle.sheet.specs.declared.Refusal.{Refusal}
 use Rattle.sheet.specs.declared.Refusal.the-variants.{NothingNear}
 use Rattle.sheet.specs.declared.Outcome.{Outcome}
@@ -144,8 +145,7 @@ same-refusal {r} {s} e = cc
 -- the checks never come to a refusal that none of them has
 pub never-refused : (checks : List Check) (r : Refusal) → NotAmong (numberOf r) checks → verdict checks ≢ Refused r
 never-refused [] r n e = not-done (sym e)
-never-refused ((true ⇒ s) ∷ later) r (p, n) e =
-    T-not (eqb (numberOf s) (numberOf r)) p (subst (λ (x : Refusal). T (eqb (numberOf s) (numberOf x))) (same-refusal e) (eqb-refl (numberOf s)))
+never-refused ((true ⇒ s) ∷ later) r (p, n) e = eqb-no p (ap numberOf (same-refusal e))
 never-refused ((false ⇒ s) ∷ later) r (p, n) e = never-refused later r n e
 
 -- P holds of the refusal of each check that can be the first to refuse
