@@ -11,7 +11,7 @@ pub struct Refusal {
     pub place: usize,
 }
 
-/// A refusal with nothing beside its number.
+/// A refusal with nothing beside its number; with number 0 it says that nothing is refused.
 pub fn plain(number: u32) -> Refusal {
     Refusal {
         number,
