@@ -14,5 +14,6 @@ void report(const char *operation, size_t row, int is_as_expected);
 void check_whole_words(void);
 void check_kept_records(void);
 void check_frames(void);
+void check_books(void);
 
 #endif

@@ -58,3 +58,14 @@ static_assert(offsetof(blentovar_read_answer, poll) == 6, "poll");
 static_assert(offsetof(blentovar_read_answer, counter) == 8, "counter");
 static_assert(offsetof(blentovar_read_answer, wrong) == 16, "wrong");
 static_assert(sizeof(blentovar_read_answer) == 24, "read_answer");
+
+static_assert(offsetof(blentovar_look_answer, number) == 0, "number");
+static_assert(offsetof(blentovar_look_answer, zero_after_number) == 4, "zero_after_number");
+static_assert(offsetof(blentovar_look_answer, count) == 8, "count");
+static_assert(sizeof(blentovar_look_answer) == 16, "look_answer");
+
+static_assert(offsetof(blentovar_part_answer, number) == 0, "number");
+static_assert(offsetof(blentovar_part_answer, zero_after_number) == 4, "zero_after_number");
+static_assert(offsetof(blentovar_part_answer, offset) == 8, "offset");
+static_assert(offsetof(blentovar_part_answer, length) == 16, "length");
+static_assert(sizeof(blentovar_part_answer) == 24, "part_answer");

@@ -20,6 +20,7 @@ int main(void)
     check_whole_words();
     check_kept_records();
     check_frames();
+    check_books();
     if (differing > 0) {
         printf("card_test: %zu calls, %zu differ\n", calls, differing);
         return 1;

@@ -1,9 +1,16 @@
 /* The operations of Blentovar for C11 and C++17. docs/INTEGRATING.md says how to
  * build the library libblentovar.a and link it, and has a whole example.
  *
- * Bits are lent one to a byte, 0 or 1, except in frames. Place i of a word is
- * the coefficient of x^i. The code of (m, t) has n = 2^m - 1 places, k of them
- * for the message; t is the most wrong places that are mended.
+ * Bits are lent one to a byte, 0 or 1, except in frames and in poll books. Place
+ * i of a word is the coefficient of x^i. The code of (m, t) has n = 2^m - 1
+ * places, k of them for the message; t is the most wrong places that are mended.
+ *
+ * A poll book is frames of 32 bytes one after another as they were received, at
+ * most 1,000 of them, and after them a trailer, which is always its last 16
+ * bytes. The trailer has the four bytes POLL and then three 32-bit numbers,
+ * highest byte first: the count of the frames, the distance in bytes from the
+ * trailer's first byte back to the first frame, and 0. Other bytes may stand
+ * before the first frame; they are not looked at.
  *
  * A buffer is lent as a pointer and its length, counted in elements. Lengths
  * are exact: longer is refused as shorter is. A null pointer is lawful only
@@ -41,8 +48,8 @@ extern "C" {
 /* The version of this header and of the library that goes with it, and the
  * same as one number: 10,000 times the first part, 100 times the second, and
  * the third. */
-#define BLENTOVAR_VERSION "0.4.0"
-#define BLENTOVAR_VERSION_NUMBER 400
+#define BLENTOVAR_VERSION "0.5.0"
+#define BLENTOVAR_VERSION_NUMBER 500
 
 /* The sheet. */
 enum {
@@ -64,14 +71,23 @@ enum {
      * t sums is 2^m or more */
     BLENTOVAR_RECORD_CONTENTS = 7,
     /* 8 is struck: it is never answered, and no later refusal gets it */
-    /* a frame is not 32 bytes */
+    /* a frame, or the buffer for one, is not 32 bytes; the frames to be written
+     * to a book are no multiple of 32 bytes */
     BLENTOVAR_FRAME_LENGTH = 9,
     /* a frame's last bit is 1 */
     BLENTOVAR_PAD_BIT = 10,
     /* a decoded frame's lead bits are wrong */
     BLENTOVAR_LEAD_BITS = 11,
     /* a stretch runs past the end: k for edit, n for splice */
-    BLENTOVAR_STRETCH_END = 12
+    BLENTOVAR_STRETCH_END = 12,
+    /* a book is shorter than 16 bytes, or its mark or its last number is wrong */
+    BLENTOVAR_NO_TRAILER = 13,
+    /* a book's count is above 1,000, its distance is not 32 times the count, or
+     * it reaches before the start; the frames to be written are above 32,000
+     * bytes */
+    BLENTOVAR_BOOK_SIZE = 14,
+    /* a book has no frame with this number */
+    BLENTOVAR_NO_SUCH_FRAME = 15
 };
 
 /* The buffer that goes with BLENTOVAR_BIT_ABOVE_ONE. */
@@ -81,11 +97,14 @@ enum {
 };
 
 /* The sizes: bits and sums of a kept record, which are also the largest n and
- * the largest t; bytes of a frame. */
+ * the largest t; bytes of a frame; bytes of a poll book's trailer, and the most
+ * frames that a book holds. */
 enum {
     BLENTOVAR_BITS = 1023,
     BLENTOVAR_SUMS = 255,
-    BLENTOVAR_FRAME_BYTES = 32
+    BLENTOVAR_FRAME_BYTES = 32,
+    BLENTOVAR_TRAILER_BYTES = 16,
+    BLENTOVAR_BOOK_FRAMES = 1000
 };
 
 typedef struct blentovar_sizes_answer {
@@ -153,6 +172,20 @@ typedef struct blentovar_read_answer {
     uint64_t counter;
     size_t wrong;
 } blentovar_read_answer;
+
+typedef struct blentovar_look_answer {
+    uint32_t number;
+    uint32_t zero_after_number;
+    size_t count;
+} blentovar_look_answer;
+
+/* A part of a lent buffer. */
+typedef struct blentovar_part_answer {
+    uint32_t number;
+    uint32_t zero_after_number;
+    size_t offset;
+    size_t length;
+} blentovar_part_answer;
 
 /* The sizes of the code of (m, t), by which the buffers of the other functions
  * are made.
@@ -241,6 +274,30 @@ uint32_t blentovar_make_frame(uint16_t house, uint16_t poll, uint64_t counter,
  * Answers the number, the reading and how many places were wrong; refused,
  * house, poll, counter and wrong are 0. */
 blentovar_read_answer blentovar_read_frame(const uint8_t *frame, size_t frame_bytes);
+
+/* How many frames a poll book holds.
+ * book: any length, read.
+ * Checks: 13, 14.
+ * Answers the number and the count; refused, count is 0. */
+blentovar_look_answer blentovar_look_at_book(const uint8_t *book, size_t book_bytes);
+
+/* Where frame i of a poll book stands; the first one is frame 0.
+ * book: any length, read.
+ * Checks: 13, 14, 15.
+ * Answers the number and the part of book that is the frame: offset, counted
+ * from the first byte that was lent, and length, which is 32. Nothing is copied.
+ * Refused, offset and length are 0. */
+blentovar_part_answer blentovar_read_book(const uint8_t *book, size_t book_bytes,
+                                          size_t i);
+
+/* Writes the poll book of some frames.
+ * frames: 32 bytes for each frame, at most 32,000, read; what they hold is not
+ * looked at. book: as many bytes and 16 more, written; the frames, then the
+ * trailer.
+ * Checks: 14, 9, 4.
+ * Answers the number; refused, book is as lent. */
+uint32_t blentovar_write_book(const uint8_t *frames, size_t frames_bytes,
+                              uint8_t *book, size_t book_bytes);
 
 #ifdef __cplusplus
 }

@@ -1,6 +1,7 @@
 // Each operation as a call on one input, with buffers that are there for the next call too.
 #include "calls.h"
 
+static uint8_t written_book[BOOK_BYTES];
 static uint8_t word[1023];
 static uint8_t generator[1024];
 static uint16_t list[255];
@@ -58,4 +59,19 @@ uint32_t call_make_frame(const struct measured_case *c, struct input *in) {
 uint32_t call_read_frame(const struct measured_case *c, struct input *in) {
     (void)c;
     return blentovar_read_frame(in->frame, BLENTOVAR_FRAME_BYTES).number;
+}
+
+uint32_t call_look_at_book(const struct measured_case *c, struct input *in) {
+    (void)c;
+    return blentovar_look_at_book(book + in->not_lent, BOOK_BYTES - in->not_lent).number;
+}
+
+uint32_t call_read_book(const struct measured_case *c, struct input *in) {
+    (void)c;
+    return blentovar_read_book(book + in->not_lent, BOOK_BYTES - in->not_lent, in->frame_of_book).number;
+}
+
+uint32_t call_write_book(const struct measured_case *c, struct input *in) {
+    (void)c;
+    return blentovar_write_book(book, BOOK_BYTES - BLENTOVAR_TRAILER_BYTES, written_book + in->not_lent, BOOK_BYTES - in->not_lent);
 }

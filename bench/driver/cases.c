@@ -9,6 +9,8 @@ const struct code codes[CODES] = {{4, 3, 15, 5}, {8, 23, 255, 99}, {10, 57, 1023
 
 static const struct code *const link_code = &codes[1];
 
+uint8_t book[BOOK_BYTES];
+
 static uint64_t state = 0x9e3779b97f4a7c15;
 
 static uint64_t made_up(void) {
@@ -51,6 +53,7 @@ static void fill_frame(const struct measured_case *c, struct input *in) {
     in->house = made_up();
     in->poll = made_up();
     in->counter = made_up() << 32 ^ made_up();
+    in->frame_of_book = in->counter % BLENTOVAR_BOOK_FRAMES;
     expect_taken(blentovar_make_frame(in->house, in->poll, in->counter, in->frame, BLENTOVAR_FRAME_BYTES), "making a frame");
     uint8_t wrong[255] = {0};
     flip(wrong, 255, c->wrong);
@@ -71,6 +74,12 @@ static void fill_input(const struct measured_case *c, struct input *in) {
     in->kept = opened.record;
     fill_stretch(c, in);
     if (c->code == link_code && c->wrong != MADE_UP_BITS) fill_frame(c, in);
+}
+
+static void fill_book(void) {
+    static uint8_t frames[BOOK_BYTES - BLENTOVAR_TRAILER_BYTES];
+    for (size_t i = 0; i < sizeof frames; i++) frames[i] = made_up();
+    expect_taken(blentovar_write_book(frames, sizeof frames, book, BOOK_BYTES), "writing a book");
 }
 
 // What has at most t wrong places must be taken: a refusal would be measured in place of the work.
@@ -144,10 +153,24 @@ static void each_of_code(measure *measure, const struct code *code) {
     with_wrong(measure, code, "Decode kept", call_decode_kept, code->t);
 }
 
+// The book uses no words up either: in the next round the other calls get the words that they got before there was a book.
+static void books(measure *measure) {
+    uint64_t before = state;
+    const struct measured_case rows[] = {
+        {link_code, "Look at a book", call_look_at_book, 0, 0, "Look at a book of 1,000"},
+        {link_code, "Read a frame of a book", call_read_book, 0, 0, "Read a frame of a book of 1,000"},
+        {link_code, "Write a book", call_write_book, 0, 0, "Write a book of 1,000"},
+    };
+    fill_book();
+    for (size_t i = 0; i < sizeof rows / sizeof *rows; i++) run_case(measure, rows[i]);
+    state = before;
+}
+
 void each_case(measure *measure) {
     for (size_t i = 0; i < CODES; i++) each_of_code(measure, &codes[i]);
     plain(measure, link_code, "Make a frame", call_make_frame);
     with_wrong(measure, link_code, "Read a frame", call_read_frame, 0);
     with_wrong(measure, link_code, "Read a frame", call_read_frame, 5);
     with_wrong(measure, link_code, "Read a frame", call_read_frame, link_code->t);
+    books(measure);
 }

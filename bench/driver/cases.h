@@ -2,13 +2,16 @@
 #pragma once
 #include "blentovar.h"
 
-enum { CODES = 4, WORDS = 32, LONGEST_STRETCH = 64 };
+enum { CODES = 4, WORDS = 32, LONGEST_STRETCH = 64, BOOK_BYTES = BLENTOVAR_BOOK_FRAMES * BLENTOVAR_FRAME_BYTES + BLENTOVAR_TRAILER_BYTES };
 
 struct code {
     size_t m, t, n, k;
 };
 
 extern const struct code codes[CODES];
+
+// A poll book of 1,000 frames. All words share it, since what its frames hold is not looked at.
+extern uint8_t book[BOOK_BYTES];
 
 // The word of a call, in every form that a call may want.
 struct input {
@@ -19,6 +22,8 @@ struct input {
     uint8_t stretch[LONGEST_STRETCH];
     uint8_t frame[BLENTOVAR_FRAME_BYTES];
     uint16_t house, poll;
+    // Which frame of the book is read, and how many of the book's first bytes are not lent.
+    uint16_t frame_of_book, not_lent;
     uint64_t counter;
 };
 

@@ -13,12 +13,13 @@ static size_t bytes_of(const struct measured_case *c, struct input *in) {
     return STACK_BYTES - untouched;
 }
 
-// The same input with a fault that is seen late: a bit above 1, and the pad of a frame.
+// The same input with a fault that is seen late: a bit above 1, the pad of a frame, and a book whose first byte is not lent.
 static struct input with_fault(const struct measured_case *c, struct input in) {
     in.message[c->code->k - 1] = 2;
     in.received[c->code->n - 1] = 2;
     in.kept.bits[c->code->n - 1] = 2;
     in.frame[BLENTOVAR_FRAME_BYTES - 1] |= 1;
+    in.not_lent = 1;
     return in;
 }
 

@@ -2,23 +2,24 @@
 
 use crate::spread::Spread;
 
-pub const LEFT: f64 = 170.0;
 pub const RIGHT: f64 = 825.0;
 
 pub struct Axis {
+    pub left: f64,
     pub first: u64,
     pub last: u64,
 }
 
 impl Axis {
     /// It begins with the last grid line that is not above any value, and ends with the first that is above all.
-    pub fn around(spreads: &[Spread]) -> Axis {
+    pub fn around(left: f64, spreads: &[Spread]) -> Axis {
         let least = spreads.iter().map(|spread| spread.least).min();
         let greatest = spreads.iter().map(|spread| spread.greatest).max();
         let [least, greatest] = [least, greatest].map(|end| end.expect("a value").max(1));
         let first = grid_values().filter(|value| *value <= least).last();
         let last = grid_values().find(|value| *value > greatest);
         Axis {
+            left,
             first: first.expect("1 is a grid line"),
             last: last.expect("no measure is as great as the last grid line"),
         }
@@ -27,7 +28,7 @@ impl Axis {
     pub fn at(&self, value: u64) -> f64 {
         let decades = |from: u64, to: u64| (to as f64).log10() - (from as f64).log10();
         let part = decades(self.first, value.max(1)) / decades(self.first, self.last);
-        LEFT + (RIGHT - LEFT) * part
+        self.left + (RIGHT - self.left) * part
     }
 
     pub fn grid(&self) -> impl Iterator<Item = u64> + '_ {
@@ -46,14 +47,16 @@ fn grid_values() -> impl Iterator<Item = u64> {
 
 #[cfg(test)]
 mod tests {
-    use super::{is_power_of_ten, Axis, LEFT, RIGHT};
+    use super::{is_power_of_ten, Axis, RIGHT};
     use crate::spread::Spread;
+
+    const LEFT: f64 = 170.0;
 
     fn axis_of(cells: &[&str]) -> Axis {
         let spreads = cells
             .iter()
             .map(|cell| Spread::from_cell(cell).expect("a cell"));
-        Axis::around(&spreads.collect::<Vec<Spread>>())
+        Axis::around(LEFT, &spreads.collect::<Vec<Spread>>())
     }
 
     #[test]

@@ -1,6 +1,6 @@
 //! Draws a table of spreads: for each call a group of rows, one for each code, with a point at the middle and a line from the least to the greatest.
 
-use crate::axis::{is_power_of_ten, Axis, LEFT};
+use crate::axis::{is_power_of_ten, Axis};
 use crate::shapes::{line, point, rectangle, small_on, text};
 use crate::shapes::{CENTRED, ENDING_THERE, PLAIN, TITLE};
 use crate::spread::{grouped, Spread};
@@ -13,6 +13,9 @@ const BELOW_GROUPS: f64 = 32.0;
 const ROW_HEIGHT: f64 = 13.0;
 const GROUP_GAP: f64 = 9.0;
 const POINT_RADIUS: f64 = 3.6;
+/// What a letter of a name takes, and what is kept free around a name.
+const LETTER_WIDTH: f64 = 6.0;
+const AROUND_NAME: f64 = 44.0;
 /// How far a text's foot is below the text's middle.
 const TEXT_FOOT: f64 = 4.0;
 
@@ -32,7 +35,8 @@ pub struct Words<'a> {
 
 pub fn svg(table: &SpreadTable, words: &Words) -> String {
     let spreads = table.calls.iter().flat_map(|call| &call.spreads);
-    let axis = Axis::around(&spreads.copied().flatten().collect::<Vec<Spread>>());
+    let spreads: Vec<Spread> = spreads.copied().flatten().collect();
+    let axis = Axis::around(behind_names(&table.calls), &spreads);
     let (mut bands, mut groups) = (String::new(), String::new());
     let mut y = GROUPS_TOP;
     for (i, call) in table.calls.iter().enumerate() {
@@ -45,12 +49,18 @@ pub fn svg(table: &SpreadTable, words: &Words) -> String {
     let parts = [
         opening(words, &axis, y + BELOW_GROUPS),
         heading(words),
-        legend(&table.codes, words),
+        legend(axis.left, &table.codes, words),
         bands,
         grid(&axis, words.unit, y),
         groups,
     ];
     parts.concat() + "</svg>\n"
+}
+
+/// The axis begins behind the longest name, so that none is cut off.
+fn behind_names(calls: &[Call]) -> f64 {
+    let longest = calls.iter().map(|call| call.name.len()).max();
+    AROUND_NAME + LETTER_WIDTH * longest.unwrap_or_default() as f64
 }
 
 fn opening(words: &Words, axis: &Axis, height: f64) -> String {
@@ -73,15 +83,15 @@ fn heading(words: &Words) -> String {
 }
 
 /// The colours of the codes, and below them what point and line mean.
-fn legend(codes: &[String], words: &Words) -> String {
+fn legend(left: f64, codes: &[String], words: &Words) -> String {
     let (codes_at, meaning_at) = (93.0, 112.0);
-    let mut drawn = row_name(codes_at, "code (n,k,t)");
+    let mut drawn = row_name(left, codes_at, "code (n,k,t)");
     for (i, code) in codes.iter().enumerate() {
-        drawn += &sample(LEFT + 155.0 * i as f64, codes_at, colour(i), code);
+        drawn += &sample(left + 155.0 * i as f64, codes_at, colour(i), code);
     }
     let middle = words.middle;
     let meaning = format!("point and number: {middle}; line: from the least to the greatest");
-    drawn + &sample(LEFT, meaning_at, COLOUR_OF_NO_CODE, &meaning)
+    drawn + &sample(left, meaning_at, COLOUR_OF_NO_CODE, &meaning)
 }
 
 fn sample(x: f64, y: f64, colour: &str, meaning: &str) -> String {
@@ -110,7 +120,7 @@ fn group_height(call: &Call) -> f64 {
 }
 
 fn group(axis: &Axis, call: &Call, top: f64, background: &str) -> String {
-    let mut drawn = row_name(top + group_height(call) / 2.0, &call.name);
+    let mut drawn = row_name(axis.left, top + group_height(call) / 2.0, &call.name);
     let mut y = top + (GROUP_GAP + ROW_HEIGHT) / 2.0;
     for (i, spread) in call.spreads.iter().enumerate() {
         if let Some(spread) = spread {
@@ -136,10 +146,41 @@ fn mark([least, middle, greatest]: [f64; 3], y: f64, colour: &str) -> String {
     line([least, y], [greatest, y], colour, 1.6) + &point([middle, y], POINT_RADIUS, colour)
 }
 
-fn row_name(y: f64, name: &str) -> String {
-    text([LEFT - 12.0, y + TEXT_FOOT], ENDING_THERE, name)
+fn row_name(left: f64, y: f64, name: &str) -> String {
+    text([left - 12.0, y + TEXT_FOOT], ENDING_THERE, name)
 }
 
 fn colour(code: usize) -> &'static str {
     COLOURS[code % COLOURS.len()]
+}
+
+#[cfg(test)]
+mod tests {
+    use super::{svg, Words, LETTER_WIDTH, MARGIN};
+    use crate::spread_table::SpreadTable;
+
+    const WORDS: Words = Words {
+        title: "",
+        subtitle: "",
+        unit: "",
+        middle: "",
+    };
+
+    /// Where the name of the only call ends.
+    fn end_of_name(name: &str) -> f64 {
+        let text = format!("| call | (7,4,1) |\n|---|--:|\n| {name} | 5 |\n");
+        let drawn = svg(&SpreadTable::parse(&text).expect("a table"), &WORDS);
+        let is_of_name = |line: &&str| line.ends_with(&format!(">{name}</text>"));
+        let line = drawn.lines().find(is_of_name).expect("the name is drawn");
+        let x = line.split('"').nth(1).expect("a text has a place");
+        x.parse().expect("a place is a number")
+    }
+
+    #[test]
+    fn no_name_is_cut_off() {
+        for name in ["Open", "Read a frame of a book of 1,000"] {
+            let width = LETTER_WIDTH * name.len() as f64;
+            assert!(end_of_name(name) - width >= MARGIN, "{name}");
+        }
+    }
 }

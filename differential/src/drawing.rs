@@ -1,17 +1,20 @@
 //! Random calls over random listed codes. Every check of an operation meets a fault now and then, so that one call may have several.
 
+use crate::books::{LookAtBook, ReadBook, WriteBook};
 use crate::call::Call;
 use crate::draw::Draw;
+use crate::drawn_books;
 use crate::frames::{MakeFrame, ReadFrame};
 use crate::records::{DecodeKept, Open, Splice};
 use crate::words::{Decode, Describe, Edit, Encode, Sizes};
 use second::answers::Answers;
+use second::book::TRAILER_BYTES;
 use second::codes::listed;
 use second::frames::{frame_of_word, Reading, FRAME_BYTES};
 use second::kept::{Kept, BITS, SUMS};
 
 /// A check meets a fault in one call of so many.
-const FAULT: usize = 10;
+pub const FAULT: usize = 10;
 
 /// The longest buffer of a random wrong length.
 const LONGEST: usize = 1100;
@@ -43,7 +46,7 @@ impl Drawing {
 
     pub fn call(&mut self) -> Box<dyn Call> {
         let code = self.code();
-        match self.draw.below(10) {
+        match self.draw.below(13) {
             0 => Box::new(self.sizes(code)),
             1 => Box::new(self.describe(code)),
             2 => Box::new(self.encode(code)),
@@ -53,7 +56,10 @@ impl Drawing {
             6 => Box::new(self.splice(code)),
             7 => Box::new(self.decode_kept(code)),
             8 => Box::new(self.make_frame()),
-            _ => Box::new(self.read_frame()),
+            9 => Box::new(self.read_frame()),
+            10 => Box::new(self.look_at_book()),
+            11 => Box::new(self.read_book()),
+            _ => Box::new(self.write_book()),
         }
     }
 
@@ -166,6 +172,26 @@ impl Drawing {
         let count = self.draw.below(26);
         self.draw.flip(&mut word, count);
         frame_of_word(&word).to_vec()
+    }
+
+    fn look_at_book(&mut self) -> LookAtBook {
+        let count = drawn_books::count(&mut self.draw);
+        let book = drawn_books::book(&mut self.draw, count);
+        LookAtBook { book }
+    }
+
+    fn read_book(&mut self) -> ReadBook {
+        let count = drawn_books::count(&mut self.draw);
+        let book = drawn_books::book(&mut self.draw, count);
+        let i = drawn_books::frame_number(&mut self.draw, count);
+        ReadBook { book, i }
+    }
+
+    fn write_book(&mut self) -> WriteBook {
+        let length = drawn_books::frames_length(&mut self.draw);
+        let frames = self.draw.bytes(length);
+        let book = self.output(length + TRAILER_BYTES);
+        WriteBook { frames, book }
     }
 
     fn code(&mut self) -> Listed {

@@ -1,8 +1,10 @@
 //! Runs operations with random arguments, good and bad, by the proved code and by the second program, and compares all that can be seen after each.
 
+mod books;
 mod call;
 mod draw;
 mod drawing;
+mod drawn_books;
 mod frames;
 mod records;
 mod tally;

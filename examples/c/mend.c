@@ -1,4 +1,4 @@
-/* What a program does with Blentovar: it mends a word, reads a damaged frame, and says two refusals in words. */
+/* What a program does with Blentovar: it mends a word, reads a damaged frame and a poll book, and says two refusals in words. */
 #include <inttypes.h>
 #include <stdio.h>
 #include <stdlib.h>
@@ -7,8 +7,8 @@
 #include "blentovar.h"
 
 /* Functions and structs may change with the second part of the version. */
-#if BLENTOVAR_VERSION_NUMBER < 400 || BLENTOVAR_VERSION_NUMBER >= 500
-#error "this program was written for Blentovar 0.4"
+#if BLENTOVAR_VERSION_NUMBER < 500 || BLENTOVAR_VERSION_NUMBER >= 600
+#error "this program was written for Blentovar 0.5"
 #endif
 
 /* What each number says. 8 is struck, so nothing stands there. */
@@ -23,10 +23,15 @@ static const char *const sheet[] = {
                                "no set of at most t places with the kept sums (Decode kept)",
     [BLENTOVAR_RECORD_CONTENTS] = "in a kept record one of the first n bits is above 1 "
                                   "or one of the first t sums is 2^m or more",
-    [BLENTOVAR_FRAME_LENGTH] = "a frame, or the buffer for one, is not 32 bytes",
+    [BLENTOVAR_FRAME_LENGTH] = "a frame, or the buffer for one, is not 32 bytes; "
+                               "the frames to be written to a book are no multiple of 32 bytes",
     [BLENTOVAR_PAD_BIT] = "a frame's last bit is 1",
     [BLENTOVAR_LEAD_BITS] = "a decoded frame's lead bits are wrong",
     [BLENTOVAR_STRETCH_END] = "a stretch runs past the end: k for Edit, n for Splice",
+    [BLENTOVAR_NO_TRAILER] = "a book is shorter than 16 bytes, or its mark or its last number is wrong",
+    [BLENTOVAR_BOOK_SIZE] = "a book's count is above 1,000, its distance is not 32 times the count, "
+                            "or it reaches before the start; the frames to be written are above 32,000 bytes",
+    [BLENTOVAR_NO_SUCH_FRAME] = "a book has no frame with this number",
 };
 
 static const char *condition(uint32_t number) {
@@ -82,15 +87,37 @@ static void mend_a_word(size_t m, size_t t) {
     printf("the mended word is the sent one\n");
 }
 
+static void print_reading(const uint8_t *frame, size_t bytes) {
+    blentovar_read_answer answer = blentovar_read_frame(frame, bytes);
+    expect(BLENTOVAR_DONE, answer.number);
+    printf("house %" PRIu16 ", poll %" PRIu16 ", counter %" PRIu64 ", %zu wrong places\n",
+           answer.house, answer.poll, answer.counter, answer.wrong);
+}
+
 static void read_a_damaged_frame(void) {
     uint8_t frame[BLENTOVAR_FRAME_BYTES];
     expect(BLENTOVAR_DONE, blentovar_make_frame(12, 1, 34567, frame, sizeof frame));
     /* The bits with the sent numbers 25 and 26. */
     frame[3] ^= 0x60;
-    blentovar_read_answer answer = blentovar_read_frame(frame, sizeof frame);
-    expect(BLENTOVAR_DONE, answer.number);
-    printf("house %" PRIu16 ", poll %" PRIu16 ", counter %" PRIu64 ", %zu wrong places\n",
-           answer.house, answer.poll, answer.counter, answer.wrong);
+    print_reading(frame, sizeof frame);
+}
+
+static void read_a_book(void) {
+    uint8_t frames[2 * BLENTOVAR_FRAME_BYTES];
+    uint8_t book[sizeof frames + BLENTOVAR_TRAILER_BYTES];
+    uint8_t *second = frames + BLENTOVAR_FRAME_BYTES;
+    expect(BLENTOVAR_DONE, blentovar_make_frame(12, 2, 34890, frames, BLENTOVAR_FRAME_BYTES));
+    expect(BLENTOVAR_DONE, blentovar_make_frame(13, 2, 987, second, BLENTOVAR_FRAME_BYTES));
+    expect(BLENTOVAR_DONE, blentovar_write_book(frames, sizeof frames, book, sizeof book));
+
+    blentovar_look_answer seen = blentovar_look_at_book(book, sizeof book);
+    expect(BLENTOVAR_DONE, seen.number);
+    printf("a book of %zu frames\n", seen.count);
+    for (size_t i = 0; i < seen.count; i++) {
+        blentovar_part_answer part = blentovar_read_book(book, sizeof book, i);
+        expect(BLENTOVAR_DONE, part.number);
+        print_reading(book + part.offset, part.length);
+    }
 }
 
 static void be_refused(void) {
@@ -115,6 +142,7 @@ static void be_told_which_bit(void) {
 int main(void) {
     mend_a_word(4, 3);
     read_a_damaged_frame();
+    read_a_book();
     be_refused();
     be_told_which_bit();
     return 0;

@@ -5,8 +5,9 @@ use crate::euclid::{flipped, Decoder};
 use crate::frames::{Link, Reading, FRAME_BYTES};
 use crate::kept::Kept;
 use crate::sheet::{plain, Refusal};
-use crate::{editing, kept, sheet, words};
+use crate::{book, editing, kept, sheet, words};
 use std::collections::BTreeMap;
+use std::ops::Range;
 
 /// n and k.
 #[derive(Debug, PartialEq)]
@@ -129,6 +130,20 @@ impl Answers {
 
     pub fn read_frame(&self, frame: &[u8]) -> Result<(Reading, usize), Refusal> {
         self.link.read(frame).map_err(plain)
+    }
+
+    pub fn look_at_book(&self, book: &[u8]) -> Result<usize, Refusal> {
+        sheet::look_at_book(book)
+    }
+
+    pub fn read_book(&self, book: &[u8], i: u64) -> Result<Range<usize>, Refusal> {
+        let count = sheet::read_book(book, i)?;
+        Ok(book::places(book.len(), count)[i as usize].clone())
+    }
+
+    pub fn write_book(&self, frames: &[u8], book_bytes: usize) -> Result<Vec<u8>, Refusal> {
+        sheet::write_book(frames, book_bytes)?;
+        Ok(book::written(frames))
     }
 }
 

@@ -5,11 +5,13 @@ use crate::frames::Reading;
 use crate::kept::Kept;
 use crate::sheet::{plain, Refusal};
 
-/// What there is room for: bytes of a text, numbers of a line, places of a word and of a list.
+/// What there is room for: bytes of a text, places of a word and of a list.
 const TEXT_ROOM: usize = 262_144;
-const NUMBER_ROOM: usize = 1 + 2 * WORD_ROOM;
-const WORD_ROOM: usize = 2_048;
+const WORD_ROOM: usize = 32_768;
 const LIST_ROOM: usize = 1_024;
+
+/// The numbers of a line. A word line may name 2,048 places, which is fewer than a word may have.
+const NUMBER_ROOM: usize = 4_097;
 
 pub fn text(bytes: &[u8]) -> String {
     if bytes.len() >= TEXT_ROOM {
@@ -98,6 +100,9 @@ impl Bench {
                 Some(self.make(reading, word_room(places)?))
             }
             (b"read", &[]) => Some(self.read()),
+            (b"look", &[]) => Some(self.look()),
+            (b"part", &[i]) => Some(self.part(i)),
+            (b"book", &[places]) => Some(self.book(word_room(places)?)),
             _ => None,
         }
     }
@@ -175,6 +180,23 @@ impl Bench {
             }
             Err(refusal) => format!("{} 0 0 0 0", refusal.number),
         }
+    }
+
+    fn look(&self) -> String {
+        let count = self.answers.look_at_book(&self.word);
+        format!("{} {}", number_of(&count), count.unwrap_or(0))
+    }
+
+    fn part(&self, i: u64) -> String {
+        let part = self.answers.read_book(&self.word, i);
+        let number = number_of(&part);
+        let part = part.unwrap_or(0..0);
+        format!("{number} {} {}", part.start, part.len())
+    }
+
+    fn book(&self, places: usize) -> String {
+        let book = self.answers.write_book(&self.word, places);
+        format!("{} book{}", number_of(&book), lent(book.ok()))
     }
 }
 
@@ -303,8 +325,23 @@ mod tests {
     }
 
     #[test]
+    fn books_are_looked_at_read_and_written() {
+        let commands = "word 49 0 9 33 80 34 79 35 76 36 76 40 1 44 32\nlook\npart 0\npart 1\nword 16 0 80\nlook\npart 0\nword 32 31 7\nbook 48\nbook 47\nfill 33 7\nbook 49\n";
+        let expected = "2 0 1\n3 0 1 32\n4 15 0 0\n6 13 0\n7 13 0 0\n9 0 book 31=7 32=80 33=79 34=76 35=76 39=1 43=32\n10 4 book kept\n12 9 book kept\n";
+        assert_eq!(text(commands.as_bytes()), expected);
+    }
+
+    #[test]
+    fn a_line_has_at_most_4097_numbers() {
+        let most = format!("word 32768{}", " 0 0".repeat(2048));
+        assert_eq!(text(most.as_bytes()), "");
+        let more = format!("word 32768{}", " 0 0".repeat(2049));
+        assert_eq!(text(more.as_bytes()), "1 not understood\n");
+    }
+
+    #[test]
     fn what_is_not_understood_is_said() {
-        let commands = "mend 4 3\nword 3 3 1\nword 3 0\nword 3 0 256\ndescribe 4 3\ndescribe 4 +3 11\ndescribe 4 3 2049\nbit 1023 1\nedit 4 3 18446744073709551616\nsizes\nsizes 4\nsizes 4 3 15\nsizes 4  3\nread ";
+        let commands = "mend 4 3\nword 3 3 1\nword 3 0\nword 3 0 256\ndescribe 4 3\ndescribe 4 +3 11\ndescribe 4 3 32769\nbit 1023 1\nedit 4 3 18446744073709551616\nsizes\nsizes 4\nsizes 4 3 15\nsizes 4  3\nread ";
         let expected: String = (1..=14).map(|i| format!("{i} not understood\n")).collect();
         assert_eq!(text(commands.as_bytes()), expected);
     }

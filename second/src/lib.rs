@@ -1,6 +1,8 @@
 //! A second program that shares no code with the proved crates; what it prints is compared with what they print. Its decoder uses another method, but was written by someone who had read theirs.
 
 pub mod answers;
+pub mod book;
+pub mod booking;
 pub mod cases;
 pub mod codes;
 pub mod codes_page;

@@ -1,5 +1,6 @@
 //! Writes what one of the proved programs is to print, the bytes that it is to read, the page of the codes, or how often noise is taken for a reading.
 
+use second::booking::{self, Written};
 use second::frames::Link;
 use second::{cases, codes_page, every_code, making, night, noise};
 use std::io::{Read, Write};
@@ -17,6 +18,10 @@ fn main() {
         "cases" => cases::text(&standard_input()).into_bytes(),
         "making" => frames_of_lines(),
         "listing" => Link::default().listing(&standard_input()).into_bytes(),
+        "booking" => with_messages(booking::booking(&standard_input())),
+        "book_listing" => with_messages(booking::book_listing(&standard_input())),
+        "night_book" => night::book(),
+        "nights_book" => night::full_book(),
         _ => usage(),
     };
     std::io::stdout()
@@ -25,15 +30,19 @@ fn main() {
 }
 
 const USAGE: &str = "usage: second SUBJECT
-  every_code        what the program every_code is to print
-  cases <TEXT       what the program cases is to print for these commands
-  listing <FRAMES   what the listing is to print for these frames
-  making <LINES     the frames of these lines; on standard error, which lines are bad
-  night             the frames of a made-up night
-  nights            the frames of six made-up nights
-  million WRONG     a million frames with WRONG wrong bits each, 0 to 255
-  codes             the page docs/CODES.md
-  noise             how often noise is taken for a reading
+  every_code          what the program every_code is to print
+  cases <TEXT         what the program cases is to print for these commands
+  listing <FRAMES     what the listing is to print for these frames
+  making <LINES       the frames of these lines; on standard error, which lines are bad
+  booking <FRAMES     the book of these frames; on standard error, why there is none
+  book_listing <BOOK  what the program book_listing is to print for this book
+  night               the frames of a made-up night
+  nights              the frames of six made-up nights
+  night_book          the book of a made-up night
+  nights_book         a full book of six made-up nights, with a line before it
+  million WRONG       a million frames with WRONG wrong bits each, 0 to 255
+  codes               the page docs/CODES.md
+  noise               how often noise is taken for a reading
 ";
 
 fn usage() -> ! {
@@ -54,6 +63,12 @@ fn frames_of_lines() -> Vec<u8> {
     let made = making::made(&standard_input());
     eprint!("{}", made.messages);
     made.frames
+}
+
+/// What a program on poll books writes to standard output; its messages go to standard error.
+fn with_messages(written: Written) -> Vec<u8> {
+    eprint!("{}", written.messages);
+    written.output
 }
 
 fn standard_input() -> Vec<u8> {

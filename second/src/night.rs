@@ -1,5 +1,6 @@
-//! Nights of made-up readings as they might come in: most frames clean, some with a few wrong bits, some beyond mending.
+//! Nights of made-up readings as they might come in, most frames clean, some with a few wrong bits, some beyond mending; and books of such frames.
 
+use crate::book::{written, MOST_FRAMES};
 use crate::frames::{Link, Reading, FRAME_BYTES};
 use crate::made_up::MadeUp;
 
@@ -18,6 +19,18 @@ pub fn frames(nights: u16) -> Vec<u8> {
     }
     bytes.extend([0; 7]);
     bytes
+}
+
+/// The whole frames of a night as a book.
+pub fn book() -> Vec<u8> {
+    let count = usize::from(HOUSES * POLLS);
+    written(&frames(1)[..count * FRAME_BYTES])
+}
+
+/// As many frames of six nights as a book takes, with a line of text before them, which is not looked at.
+pub fn full_book() -> Vec<u8> {
+    let book = written(&frames(6)[..MOST_FRAMES * FRAME_BYTES]);
+    [b"ridge link, six nights\n", &book[..]].concat()
 }
 
 /// So many frames of made-up readings, each with exactly so many wrong bits.
@@ -86,6 +99,17 @@ fn all_ones() -> [u8; FRAME_BYTES] {
 #[cfg(test)]
 mod tests {
     use super::*;
+    use crate::book::count;
+
+    #[test]
+    fn the_books_have_all_their_frames() {
+        let book = book();
+        assert_eq!((book.len(), count(&book)), (6_416, Some(200)));
+        assert!(frames(1).starts_with(&book[..6_400]));
+        let book = full_book();
+        assert_eq!((book.len(), count(&book)), (32_039, Some(1_000)));
+        assert!(frames(6).starts_with(&book[23..32_023]));
+    }
 
     #[test]
     fn spoiled_frames_have_so_many_wrong() {

@@ -1,6 +1,8 @@
 //! A model of the refusal sheet: the first check of an operation's order that refuses, and with 5 which bit it is.
 
+use crate::book::{self, MOST_FRAMES, TRAILER_BYTES};
 use crate::codes::{is_field_size, listed, Code};
+use crate::frames::FRAME_BYTES;
 use crate::kept::Kept;
 
 /// What a refused call is told: the number; with 5 the buffer and the first place in it that holds more than 1, and zeros with every other number.
@@ -130,6 +132,35 @@ pub fn decode_kept(record: &Kept, word_places: usize, list_places: usize) -> Res
         return Err(plain(4));
     }
     Ok(code)
+}
+
+/// The order of looking at a book is 13, 14. What is no book is refused 14 where the mark and the last number are right, and 13 where they are not.
+pub fn look_at_book(book: &[u8]) -> Result<usize, Refusal> {
+    let number = if book::is_marked(book) { 14 } else { 13 };
+    book::count(book).ok_or(plain(number))
+}
+
+/// The order of reading a book is 13, 14, 15.
+pub fn read_book(book: &[u8], i: u64) -> Result<usize, Refusal> {
+    let count = look_at_book(book)?;
+    if i >= count as u64 {
+        return Err(plain(15));
+    }
+    Ok(count)
+}
+
+/// The order of writing a book is 14, 9, 4.
+pub fn write_book(frames: &[u8], book_bytes: usize) -> Result<(), Refusal> {
+    if frames.len() > MOST_FRAMES * FRAME_BYTES {
+        return Err(plain(14));
+    }
+    if !frames.chunks_exact(FRAME_BYTES).remainder().is_empty() {
+        return Err(plain(9));
+    }
+    if book_bytes != frames.len() + TRAILER_BYTES {
+        return Err(plain(4));
+    }
+    Ok(())
 }
 
 /// Checks 1, 2 and 7.

@@ -5,7 +5,8 @@
 #![cfg(target_pointer_width = "64")]
 
 use crate::kept::Kept;
-use crate::library::{DecodeAnswer, DecodeKeptAnswer, KeptAnswer, ReadAnswer, SizesAnswer, Told};
+use crate::library::{DecodeAnswer, DecodeKeptAnswer, KeptAnswer, LookAnswer};
+use crate::library::{PartAnswer, ReadAnswer, SizesAnswer, Told};
 use core::mem::{offset_of, size_of};
 
 /// A struct and its bytes, then each field and the byte at which it starts.
@@ -25,3 +26,5 @@ laid_out!(Kept: 1552; m: 0, t: 8, bits: 16, zero_after_bits: 1039, sums: 1040, z
 laid_out!(KeptAnswer: 1568; told: 0, record: 16);
 laid_out!(DecodeKeptAnswer: 16; number: 0, zero_after_number: 4, wrong: 8);
 laid_out!(ReadAnswer: 24; number: 0, house: 4, poll: 6, counter: 8, wrong: 16);
+laid_out!(LookAnswer: 16; number: 0, zero_after_number: 4, count: 8);
+laid_out!(PartAnswer: 24; number: 0, zero_after_number: 4, offset: 8, length: 16);

@@ -1,4 +1,4 @@
-//! Error-correcting codes: 232 binary BCH codes with words of 7 to 1,023 bits, and the reading frame of the ridge link.
+//! Error-correcting codes: 232 binary BCH codes with words of 7 to 1,023 bits, the reading frame of the ridge link, and the poll book that holds frames.
 //!
 //! A message is sent in a word that also holds parity. In the word that arrives, up to t wrong places are found and mended; if no code word is that near, it is refused. The work is done by the static library `libblentovar.a`, whose every function is proved to meet its promise. This crate calls it over slices, which rules out bad pointers and buffers that overlap. It needs neither the standard library nor a heap.
 //!
@@ -8,7 +8,7 @@
 //!
 //! # How it works
 //!
-//! Bits are lent one to a byte, 0 or 1, except in frames; place i of a word is the coefficient of x^i. The code of (m, t) has n = 2^m - 1 places, k of them for the message, and mends up to t wrong places; [`sizes`] gives n and k. Lengths are exact: a longer buffer is refused as a shorter one is. Every operation checks what it is lent in a fixed order, and its page names the numbers of the [`Refusal`]s in that order. After a refusal no lent buffer has changed.
+//! Bits are lent one to a byte, 0 or 1, except in frames and in poll books; place i of a word is the coefficient of x^i. The code of (m, t) has n = 2^m - 1 places, k of them for the message, and mends up to t wrong places; [`sizes`] gives n and k. Lengths are exact: a longer buffer is refused as a shorter one is. Every operation checks what it is lent in a fixed order, and its page names the numbers of the [`Refusal`]s in that order. After a refusal no lent buffer has changed.
 //!
 //! ```
 //! let mut sent = [0; 15];
@@ -24,6 +24,7 @@
 #![no_std]
 #![warn(missing_docs)]
 
+mod books;
 mod frames;
 mod kept;
 mod layout;
@@ -31,6 +32,7 @@ mod library;
 mod refusal;
 mod words;
 
+pub use books::{look_at_book, read_book, write_book, BOOK_FRAMES, TRAILER_BYTES};
 pub use frames::{frame_of, make_frame, read_frame, Reading, Received, FRAME_BYTES};
 pub use kept::{Kept, BITS, SUMS};
 pub use refusal::Refusal;

@@ -50,8 +50,25 @@ pub struct ReadAnswer {
     pub wrong: usize,
 }
 
+#[repr(C)]
+pub struct LookAnswer {
+    pub number: u32,
+    pub zero_after_number: u32,
+    pub count: usize,
+}
+
+/// A part of a lent slice.
+#[repr(C)]
+pub struct PartAnswer {
+    pub number: u32,
+    pub zero_after_number: u32,
+    pub offset: usize,
+    pub length: usize,
+}
+
 mod raw {
-    use super::{DecodeAnswer, DecodeKeptAnswer, Kept, KeptAnswer, ReadAnswer, SizesAnswer, Told};
+    use super::{DecodeAnswer, DecodeKeptAnswer, Kept, KeptAnswer, LookAnswer};
+    use super::{PartAnswer, ReadAnswer, SizesAnswer, Told};
 
     extern "C" {
         pub fn blentovar_sizes(m: usize, t: usize) -> SizesAnswer;
@@ -115,6 +132,14 @@ mod raw {
             frame_bytes: usize,
         ) -> u32;
         pub fn blentovar_read_frame(frame: *const u8, frame_bytes: usize) -> ReadAnswer;
+        pub fn blentovar_look_at_book(book: *const u8, book_bytes: usize) -> LookAnswer;
+        pub fn blentovar_read_book(book: *const u8, book_bytes: usize, i: usize) -> PartAnswer;
+        pub fn blentovar_write_book(
+            frames: *const u8,
+            frames_bytes: usize,
+            book: *mut u8,
+            book_bytes: usize,
+        ) -> u32;
     }
 }
 
@@ -186,4 +211,20 @@ pub fn make_frame(house: u16, poll: u16, counter: u64, frame: &mut [u8]) -> u32 
 pub fn read_frame(frame: &[u8]) -> ReadAnswer {
     // SAFETY: only the bytes of the slice are read.
     unsafe { raw::blentovar_read_frame(frame.as_ptr(), frame.len()) }
+}
+
+pub fn look_at_book(book: &[u8]) -> LookAnswer {
+    // SAFETY: only the bytes of the slice are read.
+    unsafe { raw::blentovar_look_at_book(book.as_ptr(), book.len()) }
+}
+
+pub fn read_book(book: &[u8], i: usize) -> PartAnswer {
+    // SAFETY: only the bytes of the slice are read.
+    unsafe { raw::blentovar_read_book(book.as_ptr(), book.len(), i) }
+}
+
+pub fn write_book(frames: &[u8], book: &mut [u8]) -> u32 {
+    let (from, to) = (frames.as_ptr(), book.as_mut_ptr());
+    // SAFETY: only the bytes of the frames are read and those of the book written.
+    unsafe { raw::blentovar_write_book(from, frames.len(), to, book.len()) }
 }

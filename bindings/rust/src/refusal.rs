@@ -28,7 +28,7 @@ pub enum Refusal {
     /// 7: in a kept record one of the first n bits is above 1 or one of the first t sums is 2^m or more.
     RecordContents,
     // 8 is struck, and no refusal gets it again.
-    /// 9: a frame, or the buffer for one, is not 32 bytes.
+    /// 9: a frame, or the buffer for one, is not 32 bytes; the frames to be written to a book are no multiple of 32 bytes.
     FrameLength,
     /// 10: a frame's last bit is 1.
     PadBit,
@@ -36,12 +36,18 @@ pub enum Refusal {
     LeadBits,
     /// 12: a stretch runs past the end: k for Edit, n for Splice.
     StretchEnd,
+    /// 13: a book is shorter than 16 bytes, or its mark or its last number is wrong.
+    NoTrailer,
+    /// 14: a book's count is above 1,000, its distance is not 32 times the count, or it reaches before the start; the frames to be written are above 32,000 bytes.
+    BookSize,
+    /// 15: a book has no frame with this number.
+    NoSuchFrame,
 }
 
 use Refusal::*;
 
 impl Refusal {
-    /// The sheet's number, 1 to 12. 8 is struck, so no refusal has it.
+    /// The sheet's number, 1 to 15. 8 is struck, so no refusal has it.
     ///
     /// ```
     /// assert_eq!(blentovar::Refusal::StretchEnd.number(), 12);
@@ -59,6 +65,9 @@ impl Refusal {
             PadBit => 10,
             LeadBits => 11,
             StretchEnd => 12,
+            NoTrailer => 13,
+            BookSize => 14,
+            NoSuchFrame => 15,
         }
     }
 
@@ -82,6 +91,9 @@ impl Refusal {
             10 => PadBit,
             11 => LeadBits,
             12 => StretchEnd,
+            13 => NoTrailer,
+            14 => BookSize,
+            15 => NoSuchFrame,
             _ => panic!("the library answers a number of the sheet"),
         })
     }
@@ -109,10 +121,17 @@ impl Refusal {
             RecordContents => {
                 "in a kept record one of the first n bits is above 1 or one of the first t sums is 2^m or more"
             }
-            FrameLength => "a frame, or the buffer for one, is not 32 bytes",
+            FrameLength => {
+                "a frame, or the buffer for one, is not 32 bytes; the frames to be written to a book are no multiple of 32 bytes"
+            }
             PadBit => "a frame's last bit is 1",
             LeadBits => "a decoded frame's lead bits are wrong",
             StretchEnd => "a stretch runs past the end: k for Edit, n for Splice",
+            NoTrailer => "a book is shorter than 16 bytes, or its mark or its last number is wrong",
+            BookSize => {
+                "a book's count is above 1,000, its distance is not 32 times the count, or it reaches before the start; the frames to be written are above 32,000 bytes"
+            }
+            NoSuchFrame => "a book has no frame with this number",
         }
     }
 }
@@ -147,7 +166,7 @@ mod tests {
     #[test]
     fn each_number_is_that_of_its_refusal() {
         assert_eq!(Refusal::check(0), Ok(()));
-        for number in (1..=12).filter(|number| *number != 8) {
+        for number in (1..=15).filter(|number| *number != 8) {
             assert_eq!(Refusal::check(number).map_err(Refusal::number), Err(number));
         }
     }

@@ -1,7 +1,8 @@
 //! The cases worked out by hand. Sets are places that hold 1.
 
 use blentovar::{
-    decode, describe, edit, encode, frame_of, read_frame, sizes, Code, Kept, Reading, Refusal,
+    decode, describe, edit, encode, frame_of, look_at_book, read_book, read_frame, sizes,
+    write_book, Code, Kept, Reading, Refusal, FRAME_BYTES, TRAILER_BYTES,
 };
 
 const THIRD_WORD: [usize; 8] = [0, 1, 2, 6, 9, 10, 12, 14];
@@ -148,4 +149,87 @@ fn a_reading_comes_back_through_23_wrong_places() {
     let mut frame = frame_of(reading);
     frame[..23].iter_mut().for_each(|byte| *byte ^= 64);
     assert_eq!(read(&frame), Ok((reading, 23)));
+}
+
+/// So many frames one after another, no two of them the same.
+fn frames_of(houses: u16) -> Vec<u8> {
+    let frame = |house| {
+        frame_of(Reading {
+            house,
+            poll: 7,
+            counter: 1_000_003 * u64::from(house),
+        })
+    };
+    (0..houses).flat_map(frame).collect()
+}
+
+fn written(frames: &[u8]) -> Vec<u8> {
+    let mut book = vec![7; frames.len() + TRAILER_BYTES];
+    write_book(frames, &mut book).expect("the frames are taken");
+    book
+}
+
+#[test]
+fn the_trailers_of_books() {
+    assert_eq!(written(&[]), b"POLL\0\0\0\0\0\0\0\0\0\0\0\0");
+    let trailers: [(u16, [u8; 8]); 4] = [
+        (1, [0, 0, 0, 1, 0, 0, 0, 32]),
+        (8, [0, 0, 0, 8, 0, 0, 1, 0]),
+        (256, [0, 0, 1, 0, 0, 0, 32, 0]),
+        (1000, [0, 0, 3, 232, 0, 0, 125, 0]),
+    ];
+    for (count, numbers) in trailers {
+        let frames = frames_of(count);
+        let trailer = [&b"POLL"[..], &numbers, &[0; 4]].concat();
+        assert_eq!(written(&frames), [frames, trailer].concat());
+    }
+}
+
+#[test]
+fn a_written_book_reads_back_frame_for_frame() {
+    for count in [0, 1, 2, 255, 256, 1000] {
+        let frames = frames_of(count);
+        let book = written(&frames);
+        let count = usize::from(count);
+        assert_eq!(look_at_book(&book), Ok(count));
+        for (i, frame) in frames.chunks(FRAME_BYTES).enumerate() {
+            assert_eq!(read_book(&book, i), Ok(frame));
+        }
+        assert_eq!(read_book(&book, count), Err(Refusal::NoSuchFrame));
+    }
+}
+
+#[test]
+fn a_frame_that_is_read_stands_in_the_lent_book() {
+    let book = written(&frames_of(3));
+    // Before it stand so many of the last bytes of a book, which are not looked at.
+    for before in [0, 1, 5, 31, 32, 33, book.len()] {
+        let lent = [&book[book.len() - before..], &book].concat();
+        assert_eq!(look_at_book(&lent), Ok(3));
+        for i in 0..3 {
+            let frame = read_book(&lent, i).expect("there is such a frame");
+            let place = before + FRAME_BYTES * i;
+            let stands = &lent[place..place + FRAME_BYTES];
+            assert_eq!(frame.as_ptr_range(), stands.as_ptr_range());
+        }
+        assert_eq!(read_book(&lent, 3), Err(Refusal::NoSuchFrame));
+    }
+}
+
+/// 32 times 2^27 is 0 in 32 bits, and 32 times 2^59 is 0 in 64.
+#[test]
+fn nothing_wraps_in_a_book() {
+    let many = b"POLL\x08\0\0\0\0\0\0\0\0\0\0\0";
+    assert_eq!(look_at_book(many), Err(Refusal::BookSize));
+    let book = written(&frames_of(2));
+    for i in [2, 1 << 27, 1 << 32, 1 << 59, (1 << 59) + 1, usize::MAX] {
+        assert_eq!(read_book(&book, i), Err(Refusal::NoSuchFrame));
+    }
+}
+
+#[test]
+fn a_frame_that_cannot_be_read_is_written_all_the_same() {
+    let book = written(&[255; FRAME_BYTES]);
+    let frame = read_book(&book, 0).expect("there is such a frame");
+    assert_eq!(read(frame), Err(Refusal::PadBit));
 }

@@ -3,7 +3,7 @@
 use blentovar::{decode, describe, encode, sizes, Kept, Refusal};
 use std::collections::BTreeMap;
 
-const SHEET: [Refusal; 11] = [
+const SHEET: [Refusal; 14] = [
     Refusal::FieldSize,
     Refusal::NotListed,
     Refusal::InputLength,
@@ -18,6 +18,9 @@ const SHEET: [Refusal; 11] = [
     Refusal::PadBit,
     Refusal::LeadBits,
     Refusal::StretchEnd,
+    Refusal::NoTrailer,
+    Refusal::BookSize,
+    Refusal::NoSuchFrame,
 ];
 
 /// A text up to where it begins to say which bit.

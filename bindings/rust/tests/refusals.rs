@@ -1,7 +1,8 @@
-//! Each refusal, and of two faults the one that is checked first. Records and words are of m 4 and t 3 where nothing else is said.
+//! Each refusal, and of two faults or more the one that is checked first. Records and words are of m 4 and t 3 where nothing else is said.
 
 use blentovar::{
-    decode, describe, edit, encode, make_frame, read_frame, sizes, Kept, Reading, Refusal,
+    decode, describe, edit, encode, look_at_book, make_frame, read_book, read_frame, sizes,
+    write_book, Kept, Reading, Refusal,
 };
 
 /// The number of an answer, 0 where nothing is refused.
@@ -177,4 +178,100 @@ fn frames_refuse_in_order() {
     assert_eq!(number(read_frame(&made_up)), 6);
     made_up[31] |= 1;
     assert_eq!(number(read_frame(&made_up)), 10);
+}
+
+/// The number that is due where each check has its number or, where it passes, 0.
+fn first_of(checks: &[u32]) -> u32 {
+    *checks.iter().find(|number| **number != 0).unwrap_or(&0)
+}
+
+/// Zeros, and after them a trailer.
+fn book(before: usize, mark: &[u8], numbers: [u32; 3]) -> Vec<u8> {
+    let numbers = numbers.map(u32::to_be_bytes).concat();
+    [&vec![0; before][..], mark, &numbers].concat()
+}
+
+/// A mark and a last number, and the number that they are refused by.
+const MARKS: [(&[u8], u32, u32); 7] = [
+    (b"POLL", 0, 0),
+    (b"pOLL", 0, 13),
+    (b"POLM", 0, 13),
+    (b"LLOP", 0, 13),
+    (b"POLL", 1, 13),
+    (b"POLL", 1 << 24, 13),
+    (b"POL\0", 7, 13),
+];
+
+/// How many bytes stand before a trailer, its count and its distance, and the number that they are refused by: by none, by one of the three reasons for 14, by two of them and by all three.
+const BOOK_SIZES: [(usize, u32, u32, u32); 17] = [
+    (0, 0, 0, 0),
+    (64, 2, 64, 0),
+    (69, 2, 64, 0),
+    (32_000, 1000, 32_000, 0),
+    (32_032, 1001, 32_032, 14),
+    (64, 2, 63, 14),
+    (96, 2, 96, 14),
+    (64, 0, 64, 14),
+    (64, 2, 64 | 1 << 31, 14),
+    (63, 2, 64, 14),
+    (31_999, 1000, 32_000, 14),
+    (0, 1 << 27, 0, 14),
+    (64, 2 | 1 << 27, 64, 14),
+    (64, 2 << 24, 64 << 24, 14),
+    (32_000, 1001, 32_032, 14),
+    (64, 2, 65, 14),
+    (64, u32::MAX, u32::MAX, 14),
+];
+
+#[test]
+fn looking_at_a_book_refuses_in_order() {
+    let bare = book(0, b"POLL", [0; 3]);
+    for length in 0..16 {
+        assert_eq!(number(look_at_book(&bare[..length])), 13, "{length} bytes");
+        assert_eq!(number(look_at_book(&bare[16 - length..])), 13);
+    }
+    for (mark, last, of_mark) in MARKS {
+        for (before, count, distance, of_size) in BOOK_SIZES {
+            let lent = book(before, mark, [count, distance, last]);
+            let due = first_of(&[of_mark, of_size]);
+            assert_eq!(number(look_at_book(&lent)), due, "{before} {count} {last}");
+        }
+    }
+}
+
+#[test]
+fn reading_a_book_refuses_in_order() {
+    assert_eq!(number(read_book(b"POLL", 0)), 13);
+    assert_eq!(number(read_book(&[], usize::MAX)), 13);
+    for (mark, last, of_mark) in MARKS {
+        for (before, count, distance, of_size) in BOOK_SIZES {
+            let lent = book(before, mark, [count, distance, last]);
+            let frames = count as usize;
+            for i in [0, 1, 2, 999, 1000, 1001, 1 << 32, 1 << 59, usize::MAX] {
+                let of_frame = if i < frames { 0 } else { 15 };
+                let due = first_of(&[of_mark, of_size, of_frame]);
+                assert_eq!(number(read_book(&lent, i)), due, "{count} {last} {i}");
+            }
+        }
+    }
+}
+
+#[test]
+fn writing_a_book_refuses_in_order() {
+    let writing = |frames_bytes: usize, book_bytes: usize| {
+        let mut book = vec![7; book_bytes];
+        let answer = number(write_book(&vec![1; frames_bytes], &mut book));
+        assert!(answer == 0 || book.iter().all(|byte| *byte == 7));
+        answer
+    };
+    let taken = [0, 32, 64, 31_968, 32_000].map(|length| (length, 0));
+    let no_multiples = [1, 31, 33, 65, 31_999].map(|length| (length, 9));
+    let too_many = [32_001, 32_031, 32_032, 64_000].map(|length| (length, 14));
+    for (length, of_frames) in [&taken[..], &no_multiples, &too_many].concat() {
+        assert_eq!(writing(length, length + 16), of_frames, "{length} bytes");
+        for book_bytes in [0, 15, length, length + 15, length + 17, length + 48] {
+            let due = first_of(&[of_frames, 4]);
+            assert_eq!(writing(length, book_bytes), due, "{length} {book_bytes}");
+        }
+    }
 }

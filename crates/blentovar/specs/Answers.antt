@@ -15,13 +15,17 @@ use Rattle.splice.specs.Splice.{Splices}
 use Rattle.decode_kept.specs.DecodeKept.{DecodesKept}
 use Rattle.frame.specs.Make.{Makes}
 use Rattle.frame.specs.Read.{Reads}
+use Rattle.book.specs.Read.{Looks, Finds}
+use Rattle.book.specs.Write.{WritesBook}
 use Rattle.blentovar.specs.declared.SizesAnswer.{SizesAnswer}
 use Rattle.blentovar.specs.declared.DecodeAnswer.{DecodeAnswer}
 use Rattle.blentovar.specs.declared.Record.{Record}
 use Rattle.blentovar.specs.declared.KeptAnswer.{KeptAnswer}
 use Rattle.blentovar.specs.declared.DecodeKeptAnswer.{DecodeKeptAnswer}
 use Rattle.blentovar.specs.declared.ReadAnswer.{ReadAnswer}
-use Rattle.blentovar.specs.Layout.{sizesAnswer, decodeAnswer, keptOf, keptAnswer, decodeKeptAnswer, readAnswer}
+use Rattle.blentovar.specs.declared.LookAnswer.{LookAnswer}
+use Rattle.blentovar.specs.declared.PartAnswer.{PartAnswer}
+use Rattle.blentovar.specs.Layout.{sizesAnswer, decodeAnswer, keptOf, keptAnswer, decodeKeptAnswer, readAnswer, lookAnswer, partAnswer}
 
 -- r is an answer that is promised, laid out
 pub record LaidOut {A R : Type 0} (layout : A → R) (Promised : A → Type 0) (r : R) : Type 0 where
@@ -60,3 +64,12 @@ MakesAs house poll counter lent r left =
 
 abbrev pub ReadsAs : List ℕ → ReadAnswer → Type 0
 ReadsAs frame = LaidOut readAnswer (Reads frame)
+
+abbrev pub LooksAs : List ℕ → LookAnswer → Type 0
+LooksAs book = LaidOut lookAnswer (Looks book)
+
+abbrev pub ReadsBookAs : List ℕ → ℕ → PartAnswer → Type 0
+ReadsBookAs book i = LaidOut partAnswer (Finds book i)
+
+abbrev pub WritesBookAs : List ℕ → List ℕ → ℕ → List ℕ → Type 0
+WritesBookAs frames lent r left = LaidOut outcomeNumber (λ answer. WritesBook frames lent answer left) r

@@ -1,8 +1,12 @@
 // The operations under C names, each a thin call of the proved one. What C would pad is a field that holds 0.
 
 ghost use mathlib.Core.Path.{_≡_};
+ghost use Prim.Native.Nat.{_≤_};
 ghost use Rattle.blentovar.specs.Answers.{SizesAs, DescribesAs, EncodesAs, DecodesAs, EditsAs, OpensAs, SplicesAs, DecodesKeptAs, MakesAs, ReadsAs};
-ghost use Rattle.blentovar.specs.Layout.{sizesAnswer, decodeAnswer, laidOut, keptOf, keptAnswer, decodeKeptAnswer, readAnswer};
+ghost use Rattle.blentovar.specs.Answers.{LooksAs, ReadsBookAs, WritesBookAs};
+ghost use Rattle.blentovar.specs.Layout.{sizesAnswer, decodeAnswer, laidOut, keptOf, keptAnswer, decodeKeptAnswer, readAnswer, lookAnswer, partAnswer};
+use book::Found;
+use book::Looked;
 use codec::Described;
 use decode::Decoded;
 use frame::ReadFrame;
@@ -65,6 +69,23 @@ pub struct ReadAnswer {
     pub poll: u16,
     pub counter: u64,
     pub wrong: usize,
+}
+
+// The sheet's number, 0 where nothing is refused, and the count of frames.
+#[repr(C)]
+pub struct LookAnswer {
+    pub number: u32,
+    pub zero_after_number: u32,
+    pub count: usize,
+}
+
+// The sheet's number, 0 where nothing is refused, and the part of the book: where it starts and how long it is.
+#[repr(C)]
+pub struct PartAnswer {
+    pub number: u32,
+    pub zero_after_number: u32,
+    pub offset: usize,
+    pub length: usize,
 }
 
 fn sizes_answer(given: Described) -> SizesAnswer
@@ -157,6 +178,31 @@ fn read_answer(given: ReadFrame) -> ReadAnswer
         poll: reading.poll,
         counter: reading.counter,
         wrong: given.wrong,
+    }
+}
+
+fn look_answer(given: Looked) -> LookAnswer
+    ensures { λ r. ⌜ r ≡ lookAnswer given ⌝ }
+{
+    let outcome = given.outcome;
+    LookAnswer {
+        number: sheet::outcome_number(outcome),
+        zero_after_number: 0,
+        count: given.count,
+    }
+}
+
+fn part_answer(given: Found) -> PartAnswer
+    requires { ⌜ given .from ≤ given .to ⌝ }
+    ensures { λ r. ⌜ r ≡ partAnswer given ⌝ }
+{
+    let outcome = given.outcome;
+    let length = given.to - given.from;
+    PartAnswer {
+        number: sheet::outcome_number(outcome),
+        zero_after_number: 0,
+        offset: given.from,
+        length,
     }
 }
 
@@ -261,4 +307,28 @@ pub extern "C" fn blentovar_read_frame(frame: &[u8]) -> ReadAnswer
 {
     let given = frame::read(frame);
     read_answer(given)
+}
+
+#[no_mangle]
+pub extern "C" fn blentovar_look_at_book(book: &[u8]) -> LookAnswer
+    ensures { λ r. ⌜ LooksAs (now (book .entry)) r ⌝ }
+{
+    let given = book::look(book);
+    look_answer(given)
+}
+
+#[no_mangle]
+pub extern "C" fn blentovar_read_book(book: &[u8], i: usize) -> PartAnswer
+    ensures { λ r. ⌜ ReadsBookAs (now (book .entry)) i r ⌝ }
+{
+    let given = book::find(book, i);
+    part_answer(given)
+}
+
+#[no_mangle]
+pub extern "C" fn blentovar_write_book(frames: &[u8], book: &mut [u8]) -> u32
+    ensures { λ r. ⌜ WritesBookAs (now (frames .entry)) (now (book .entry)) r (now (book .exit)) ⌝ }
+{
+    let outcome = book::write(frames, book);
+    sheet::outcome_number(outcome)
 }

@@ -29,7 +29,7 @@ fn sizes(line: u64, numbers: &[usize]) {
 }
 
 fn describe_into(line: u64, m: usize, t: usize, generator: &mut [u8])
-    requires { ⌜ length (now generator) ≤ 2048 ⌝ }
+    requires { ⌜ length (now generator) ≤ 32768 ⌝ }
 {
     let answer = blentovar::blentovar_describe(m, t, generator);
     show_number(line, answer.number);
@@ -44,7 +44,7 @@ fn describe(line: u64, numbers: &[usize]) {
     let m = number_at(numbers, 0);
     let t = number_at(numbers, 1);
     let places = number_at(numbers, 2);
-    if numbers.len() != 3 || places > 2048 {
+    if numbers.len() != 3 || places > 32768 {
         not_understood(line);
         return;
     }
@@ -53,7 +53,7 @@ fn describe(line: u64, numbers: &[usize]) {
 }
 
 fn encode_into(line: u64, m: usize, t: usize, message: &[u8], word: &mut [u8])
-    requires { ⌜ length (now word) ≤ 2048 ⌝ }
+    requires { ⌜ length (now word) ≤ 32768 ⌝ }
 {
     let told = blentovar::blentovar_encode(m, t, message, word);
     show_told(line, told.number, told.buffer, told.place);
@@ -66,7 +66,7 @@ fn encode(line: u64, numbers: &[usize], message: &[u8]) {
     let m = number_at(numbers, 0);
     let t = number_at(numbers, 1);
     let places = number_at(numbers, 2);
-    if numbers.len() != 3 || places > 2048 {
+    if numbers.len() != 3 || places > 32768 {
         not_understood(line);
         return;
     }
@@ -75,7 +75,7 @@ fn encode(line: u64, numbers: &[usize], message: &[u8]) {
 }
 
 fn decode_into(line: u64, m: usize, t: usize, received: &[u8], word: &mut [u8], list: &mut [u16])
-    requires { ⌜ (length (now word) ≤ 2048) × (length (now list) ≤ 1024) ⌝ }
+    requires { ⌜ (length (now word) ≤ 32768) × (length (now list) ≤ 1024) ⌝ }
 {
     let answer = blentovar::blentovar_decode(m, t, received, word, list);
     show_told(line, answer.number, answer.buffer, answer.place);
@@ -87,7 +87,7 @@ fn decode(line: u64, numbers: &[usize], received: &[u8]) {
     let t = number_at(numbers, 1);
     let places = number_at(numbers, 2);
     let listing = number_at(numbers, 3);
-    if numbers.len() != 4 || places > 2048 || listing > 1024 {
+    if numbers.len() != 4 || places > 32768 || listing > 1024 {
         not_understood(line);
         return;
     }
@@ -132,7 +132,7 @@ fn edit(line: u64, numbers: &[usize], word: &[u8], stretch: &[u8]) {
     let t = number_at(numbers, 1);
     let start = number_at(numbers, 2);
     let n = word.len();
-    if numbers.len() != 3 || n > 2048 {
+    if numbers.len() != 3 || n > 32768 {
         not_understood(line);
         return;
     }
@@ -141,7 +141,7 @@ fn edit(line: u64, numbers: &[usize], word: &[u8], stretch: &[u8]) {
 }
 
 fn decode_kept_into(line: u64, record: Record, word: &mut [u8], list: &mut [u16])
-    requires { ⌜ (length (now word) ≤ 2048) × (length (now list) ≤ 1024) ⌝ }
+    requires { ⌜ (length (now word) ≤ 32768) × (length (now list) ≤ 1024) ⌝ }
 {
     let answer = blentovar::blentovar_decode_kept(record, word, list);
     show_number(line, answer.number);
@@ -151,7 +151,7 @@ fn decode_kept_into(line: u64, record: Record, word: &mut [u8], list: &mut [u16]
 fn decode_kept(line: u64, numbers: &[usize], record: Record) {
     let places = number_at(numbers, 0);
     let listing = number_at(numbers, 1);
-    if numbers.len() != 2 || places > 2048 || listing > 1024 {
+    if numbers.len() != 2 || places > 32768 || listing > 1024 {
         not_understood(line);
         return;
     }
@@ -161,7 +161,7 @@ fn decode_kept(line: u64, numbers: &[usize], record: Record) {
 }
 
 fn make_into(line: u64, house: u16, poll: u16, counter: u64, frame: &mut [u8])
-    requires { ⌜ length (now frame) ≤ 2048 ⌝ }
+    requires { ⌜ length (now frame) ≤ 32768 ⌝ }
 {
     let number = blentovar::blentovar_make_frame(house, poll, counter, frame);
     show_number(line, number);
@@ -175,7 +175,7 @@ fn make(line: u64, numbers: &[usize]) {
     let poll = number_at(numbers, 1);
     let counter = number_at(numbers, 2) as u64;
     let places = number_at(numbers, 3);
-    if numbers.len() != 4 || house > 65535 || poll > 65535 || places > 2048 {
+    if numbers.len() != 4 || house > 65535 || poll > 65535 || places > 32768 {
         not_understood(line);
         return;
     }
@@ -203,6 +203,49 @@ fn read(line: u64, numbers: &[usize], frame: &[u8]) {
     end_line();
 }
 
+fn look(line: u64, numbers: &[usize], book: &[u8]) {
+    if numbers.len() != 0 {
+        not_understood(line);
+        return;
+    }
+    let answer = blentovar::blentovar_look_at_book(book);
+    show_number(line, answer.number);
+    print_number(answer.count as u64);
+    end_line();
+}
+
+fn part(line: u64, numbers: &[usize], book: &[u8]) {
+    if numbers.len() != 1 {
+        not_understood(line);
+        return;
+    }
+    let answer = blentovar::blentovar_read_book(book, number_at(numbers, 0));
+    show_number(line, answer.number);
+    print_number(answer.offset as u64);
+    print_number(answer.length as u64);
+    end_line();
+}
+
+fn book_into(line: u64, frames: &[u8], book: &mut [u8])
+    requires { ⌜ length (now book) ≤ 32768 ⌝ }
+{
+    let number = blentovar::blentovar_write_book(frames, book);
+    show_number(line, number);
+    print(b" book");
+    show_lent_bytes(book);
+    end_line();
+}
+
+fn book(line: u64, numbers: &[usize], frames: &[u8]) {
+    let places = number_at(numbers, 0);
+    if numbers.len() != 1 || places > 32768 {
+        not_understood(line);
+        return;
+    }
+    let mut room = room::for_bytes(places);
+    book_into(line, frames, &mut room[..places]);
+}
+
 pub(crate) fn call(
     line: u64,
     command: Command,
@@ -220,6 +263,9 @@ pub(crate) fn call(
         Command::DecodeKept => decode_kept(line, numbers, record),
         Command::Make => make(line, numbers),
         Command::Read => read(line, numbers, word),
+        Command::Look => look(line, numbers, word),
+        Command::Part => part(line, numbers, word),
+        Command::Book => book(line, numbers, word),
         _ => not_understood(line),
     }
 }

@@ -6,11 +6,11 @@ ghost use lib.ListN.{length};
 ghost use Rattle.io.specs.Counts.{Counts};
 
 // Room for so many bytes; 170 is no bit.
-pub(crate) fn for_bytes(places: usize) -> [u8; 2048]
-    requires { ⌜ places ≤ 2048 ⌝ }
-    ensures { λ r. ⌜ (2048 ≡ length r) × Counts places r ⌝ }
+pub(crate) fn for_bytes(places: usize) -> [u8; 32768]
+    requires { ⌜ places ≤ 32768 ⌝ }
+    ensures { λ r. ⌜ (32768 ≡ length r) × Counts places r ⌝ }
 {
-    [170; 2048]
+    [170; 32768]
 }
 
 // Room for a list of so many places; 43690 is no place.
@@ -22,7 +22,7 @@ pub(crate) fn for_list(places: usize) -> [u16; 1024]
 }
 
 pub(crate) fn bytes_are_kept(lent: &[u8]) -> bool
-    requires { ⌜ length (now lent) ≤ 2048 ⌝ }
+    requires { ⌜ length (now lent) ≤ 32768 ⌝ }
 {
     let places = lent.len();
     let before = for_bytes(places);

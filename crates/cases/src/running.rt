@@ -22,7 +22,7 @@ struct Bench {
 }
 
 fn nothing_lent() -> Bench
-    ensures { λ r. ⌜ (r .word ≤ 2048) × (r .stretch ≤ 2048) ⌝ }
+    ensures { λ r. ⌜ (r .word ≤ 32768) × (r .stretch ≤ 32768) ⌝ }
 {
     let record = Record {
         m: 0,
@@ -74,7 +74,7 @@ fn run_command(
     }
 }
 
-// Room for the longest word line: the length, and a place and a value 2,048 times.
+// Room for the numbers of a line: a length, and a place and a value 2,048 times.
 fn number_space() -> [usize; 4097]
     ensures { λ r. ⌜ 4097 ≡ length r ⌝ }
 {
@@ -102,7 +102,7 @@ fn run_line(line: u64, text: &[u8], word: &mut [u8], stretch: &mut [u8], bench: 
 }
 
 fn run_lines(text: &[u8], word: &mut [u8], stretch: &mut [u8])
-    requires { ⌜ (length (now word) ≡ 2048) × (length (now stretch) ≡ 2048) ⌝ }
+    requires { ⌜ (length (now word) ≡ 32768) × (length (now stretch) ≡ 32768) ⌝ }
 {
     let mut bench = nothing_lent();
     let mut line = 0u64;
@@ -116,7 +116,7 @@ fn run_lines(text: &[u8], word: &mut [u8], stretch: &mut [u8])
 }
 
 pub(crate) fn run_text(text: &[u8]) {
-    let mut word = room::for_bytes(2048);
-    let mut stretch = room::for_bytes(2048);
+    let mut word = room::for_bytes(32768);
+    let mut stretch = room::for_bytes(32768);
     run_lines(text, &mut word, &mut stretch);
 }

@@ -19,6 +19,9 @@ pub enum Command {
     DecodeKept,
     Make,
     Read,
+    Look,
+    Part,
+    Book,
     Unknown,
 }
 
@@ -52,6 +55,19 @@ fn call_of(name: &[u8]) -> Command {
     }
     if same(name, b"read") {
         return Command::Read;
+    }
+    book_call_of(name)
+}
+
+fn book_call_of(name: &[u8]) -> Command {
+    if same(name, b"look") {
+        return Command::Look;
+    }
+    if same(name, b"part") {
+        return Command::Part;
+    }
+    if same(name, b"book") {
+        return Command::Book;
     }
     Command::Unknown
 }

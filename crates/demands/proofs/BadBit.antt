@@ -39,11 +39,17 @@ use Rattle.layout.specs.Frame.{wordOf}
 use Rattle.frame.specs.declared.reading.ReadFrame.{ReadFrame}
 use Rattle.frame.specs.Make.{Makes, makeChecks}
 use Rattle.frame.specs.Read.{Reads, frameChecks, leadChecks}
+use Rattle.book.specs.declared.reading.Looked.{Looked}
+use Rattle.book.specs.declared.reading.Found.{Found}
+use Rattle.book.specs.Read.{Looks, bookChecks, Finds, findChecks}
+use Rattle.book.specs.Write.{WritesBook, writeChecks}
 use Rattle.blentovar.specs.declared.SizesAnswer.{SizesAnswer}
 use Rattle.blentovar.specs.declared.DecodeAnswer.{DecodeAnswer}
 use Rattle.blentovar.specs.declared.KeptAnswer.{KeptAnswer}
 use Rattle.blentovar.specs.declared.DecodeKeptAnswer.{DecodeKeptAnswer}
 use Rattle.blentovar.specs.declared.ReadAnswer.{ReadAnswer}
+use Rattle.blentovar.specs.declared.LookAnswer.{LookAnswer}
+use Rattle.blentovar.specs.declared.PartAnswer.{PartAnswer}
 use Rattle.blentovar.specs.Answers.{LaidOut}
 use Rattle.demands.specs.Words.{RefusedBy, NearLead, FirstBad, Tells, TellsWhich, NeverBadBit}
 use Rattle.demands.proofs.Exactly.{decode-refused, decode-kept-refused, read-refused}
@@ -187,8 +193,12 @@ decode-kept-never {stored} {lentWord} {lentList} {x = x} p = never (tells [] (x 
         (other tt, λ z. (other tt, λ z. (other tt, λ z. tt))) e
     pick r (inr (z, (e, none))) = subst (Names []) (sym e) (other tt refl)
 
+-- an operation whose checks have all other numbers
+checks-never : {x : Outcome} (checks : List Check) → Each (Names []) checks → x ≡ verdict checks → outcomeNumber x ≢ 5
+checks-never {x} checks p e = never (tells [] x (λ r f. refused-each (Names []) checks p (sym e ∙ f)))
+
 make-never : {reading : Reading} {lent left : List ℕ} {x : Outcome} → Makes reading lent x left → outcomeNumber x ≢ 5
-make-never {lent = lent} {x = x} p = never (tells [] x (λ r e. refused-each (Names []) (makeChecks lent) (other tt, λ z. tt) (sym (answer-is p) ∙ e)))
+make-never {lent = lent} p = checks-never (makeChecks lent) (other tt, λ z. tt) (answer-is p)
 
 read-never : (frame : List ℕ) {x : ReadFrame} → Reads frame x → outcomeNumber (x .outcome) ≢ 5
 read-never frame {x} p = never (tells [] (x .outcome) (λ r e. pick r (read-refused frame p r .0 e)))
@@ -199,6 +209,15 @@ read-never frame {x} p = never (tells [] (x .outcome) (λ r e. pick r (read-refu
     pick r (inr (z, inl (e, far))) = subst (Names []) (sym e) (other tt refl)
     pick r (inr (z, inr (word, C, d, e))) = refused-each (Names []) (leadChecks word) (other tt, λ z. tt) e
 
+look-never : (book : List ℕ) {x : Looked} → Looks book x → outcomeNumber (x .outcome) ≢ 5
+look-never book p = checks-never (bookChecks book) (other tt, λ z. (other tt, λ z. tt)) (answer-is p)
+
+find-never : (book : List ℕ) (i : ℕ) {x : Found} → Finds book i x → outcomeNumber (x .outcome) ≢ 5
+find-never book i p = checks-never (findChecks book i) (other tt, λ z. (other tt, λ z. (other tt, λ z. tt))) (answer-is p)
+
+write-book-never : {frames lent left : List ℕ} {x : Outcome} → WritesBook frames lent x left → outcomeNumber x ≢ 5
+write-book-never {frames} {lent} p = checks-never (writeChecks frames lent) (other tt, λ z. (other tt, λ z. (other tt, λ z. tt))) (answer-is p)
+
 pub never-bad-bit : NeverBadBit
 never-bad-bit =
     record {
@@ -207,4 +226,7 @@ never-bad-bit =
       decode-kept = λ stored p. laid (λ (r : DecodeKeptAnswer). r .number ≢ 5) (λ x q. decode-kept-never q) p;
       make-frame = λ p. laid (λ (r : ℕ). r ≢ 5) (λ x q. make-never q) p;
       read-frame = λ frame p. laid (λ (r : ReadAnswer). r .number ≢ 5) (λ x q. read-never frame q) p;
+      look-at-book = λ book p. laid (λ (r : LookAnswer). r .number ≢ 5) (λ x q. look-never book q) p;
+      read-book = λ book i p. laid (λ (r : PartAnswer). r .number ≢ 5) (λ x q. find-never book i q) p;
+      write-book = λ p. laid (λ (r : ℕ). r ≢ 5) (λ x q. write-book-never q) p;
     }

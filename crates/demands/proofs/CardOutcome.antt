@@ -9,12 +9,16 @@ use Rattle.blentovar.specs.declared.Record.{Record}
 use Rattle.blentovar.specs.declared.KeptAnswer.{KeptAnswer}
 use Rattle.blentovar.specs.declared.DecodeKeptAnswer.{DecodeKeptAnswer}
 use Rattle.blentovar.specs.declared.ReadAnswer.{ReadAnswer}
+use Rattle.blentovar.specs.declared.LookAnswer.{LookAnswer}
+use Rattle.blentovar.specs.declared.PartAnswer.{PartAnswer}
 use Rattle.blentovar.specs.Answers.{LaidOut, SizesAs, DescribesAs, EncodesAs, DecodesAs, EditsAs, OpensAs, SplicesAs, DecodesKeptAs, MakesAs, ReadsAs}
+use Rattle.blentovar.specs.Answers.{LooksAs, ReadsBookAs, WritesBookAs}
 use Rattle.demands.proofs.OneOutcome.{sizes-one, describe-one, encode-one}
 use Rattle.demands.proofs.Near.{decode-one}
 use Rattle.demands.proofs.EditOutcome.{edit-one}
 use Rattle.demands.proofs.KeptOutcome.{open-one, splice-one, decode-kept-one}
 use Rattle.demands.proofs.FrameOutcome.{make-one, read-one}
+use Rattle.demands.proofs.BookOutcome.{look-one, find-one, write-book-one}
 
 -- equal answers are laid out alike
 alike : {A R : Type 0} {layout : A → R} {P Q : A → Type 0} {r s : R} (p : LaidOut layout P r) (q : LaidOut layout Q s) → p .answer ≡ q .answer → r ≡ s
@@ -58,3 +62,13 @@ splice-card-one stored p q = alike p q (splice-one (p .promised) (q .promised))
 
 pub read-card-one : (frame : List ℕ) {r s : ReadAnswer} → ReadsAs frame r → ReadsAs frame s → r ≡ s
 read-card-one frame p q = alike p q (read-one frame (p .promised) (q .promised))
+
+pub look-card-one : (book : List ℕ) {r s : LookAnswer} → LooksAs book r → LooksAs book s → r ≡ s
+look-card-one book p q = alike p q (look-one book (p .promised) (q .promised))
+
+pub read-book-card-one : (book : List ℕ) (i : ℕ) {r s : PartAnswer} → ReadsBookAs book i r → ReadsBookAs book i s → r ≡ s
+read-book-card-one book i p q = alike p q (find-one book i (p .promised) (q .promised))
+
+pub write-book-card-one : {frames lent left left′ : List ℕ} {r s : ℕ} → WritesBookAs frames lent r left → WritesBookAs frames lent s left′
+    → (r ≡ s) × (left ≡ left′)
+write-book-card-one p q = let (e, l) = write-book-one (p .promised) (q .promised) in (alike p q e, l)

@@ -2,7 +2,7 @@
 use mathlib.Core.Path.{_≡_, _∙_, refl, sym, ap, ap₂, subst}
 use mathlib.Core.Bool.{Bool, true, false}
 use mathlib.Core.List.{List, [], _∷_, _++_, List·Memᴰ, List·Memᴰ·head, List·Memᴰ·tail, List·Memᴰ·not-nil}
-use Prim.Native.Nat.{ℕ, _+_, _-_, _*_, _<_}
+use Prim.Native.Nat.{ℕ, _+_, _-_, _*_, _^_, _<_}
 use native.Mathlib.Omega.{arith}
 use lib.Dec.{T, eqb, leb, eqb→eq, leb→le}
 use lib.ListN.{length, getD, replicate, length-replicate}
@@ -10,8 +10,8 @@ use Rattle.sheet.specs.declared.Refusal.the-variants.{NothingNear}
 use Rattle.sheet.specs.declared.Outcome.{Outcome}
 use Rattle.sheet.specs.declared.Outcome.the-variants.{Done, Refused}
 use Rattle.sheet.specs.declared.Told.{Told}
-use Rattle.sheet.specs.Number.{outcomeTold}
-use Rattle.sheet.specs.Verdict.{finds-nothing}
+use Rattle.sheet.specs.Number.{outcomeTold, numberOf, outcomeNumber}
+use Rattle.sheet.specs.Verdict.{verdict, finds-nothing}
 use Rattle.sheet.proofs.VerdictLaws.{does, always, answer-is}
 use Rattle.bits.specs.Bits.{AreBits, listOf, firstAbove, flip, flipped}
 use Rattle.bits.specs.Differences.{differences, differencesFrom}
@@ -37,6 +37,9 @@ use Rattle.kept.specs.declared.Kept.{Kept}
 use Rattle.kept.specs.declared.Answer.{Answer}
 use Rattle.kept.specs.Record.{someAtLeast}
 use Rattle.splice.specs.Splice.{Splices, spliceChecks}
+use Rattle.book.specs.declared.reading.Found.{Found}
+use Rattle.book.specs.Book.{mark, frameStart}
+use Rattle.book.specs.Read.{hasMark, numberAt, countOf, lacksTrailer, sizeIsWrong, findChecks, Span, Finds}
 use Rattle.demands.proofs.OneOutcome.{encode-one}
 use Rattle.demands.proofs.Near.{mendedBy, mended-is, decode-one}
 use Rattle.demands.proofs.NoSet.{zeroes, plusPlace, noSet, nothing-located}
@@ -54,10 +57,18 @@ pub data Case : Type 0 where
   told-edit : ℕ → ℕ → List ℕ → ℕ → List ℕ → Told → Case
   -- m, t, a start, a stretch, what Splice into a record of zeros tells
   told-splice : ℕ → ℕ → ℕ → List ℕ → Told → Case
+  -- a book, a frame number, where the frame starts
+  part-at : List ℕ → ℕ → ℕ → Case
+  -- a book, a frame number, the number of the refusal, which comes with the empty part at the front
+  no-part : List ℕ → ℕ → ℕ → Case
 
 -- 5, with a buffer and a place
 abbrev pub badBit : ℕ → ℕ → Told
 badBit buffer place = record { number = 5; buffer = buffer; place = place }
+
+-- a trailer with this mark, these bytes of the count and of the distance, and zero
+abbrev pub trailerWith : List ℕ → List ℕ → List ℕ → List ℕ
+trailerWith m count distance = m ++ count ++ distance ++ (0 ∷ 0 ∷ 0 ∷ 0 ∷ [])
 
 unfoldable pub cases : List Case
 cases =
@@ -76,6 +87,15 @@ cases =
     ∷ told-splice 4 3 10 (1 ∷ 0 ∷ 2 ∷ []) (badBit 0 2)
     ∷ told-edit 4 3 (replicate 7 0 ++ (2 ∷ replicate 7 0)) 0 (3 ∷ []) (badBit 0 7)
     ∷ told-edit 4 3 (replicate 15 0) 0 (1 ∷ 3 ∷ []) (badBit 1 1)
+    ∷ no-part (trailerWith mark (0 ∷ 0 ∷ 0 ∷ 0 ∷ []) (0 ∷ 0 ∷ 0 ∷ 0 ∷ [])) 0 15
+    ∷ no-part (trailerWith mark (0 ∷ 0 ∷ 0 ∷ 0 ∷ []) (0 ∷ 0 ∷ 0 ∷ 0 ∷ [])) (2 ^ 59) 15
+    ∷ no-part (trailerWith mark (0 ∷ 0 ∷ 0 ∷ 0 ∷ []) (0 ∷ 0 ∷ 0 ∷ 0 ∷ [])) (2 ^ 64 - 1) 15
+    ∷ no-part (trailerWith mark (8 ∷ 0 ∷ 0 ∷ 0 ∷ []) (0 ∷ 0 ∷ 0 ∷ 0 ∷ [])) 0 14
+    ∷ no-part (trailerWith (80 ∷ 79 ∷ 76 ∷ 77 ∷ []) (8 ∷ 0 ∷ 0 ∷ 0 ∷ []) (0 ∷ 0 ∷ 0 ∷ 0 ∷ [])) 0 13
+    ∷ no-part (replicate 31 7 ++ trailerWith mark (0 ∷ 0 ∷ 0 ∷ 1 ∷ []) (0 ∷ 0 ∷ 0 ∷ 32 ∷ [])) 0 14
+    ∷ part-at (replicate 32 7 ++ trailerWith mark (0 ∷ 0 ∷ 0 ∷ 1 ∷ []) (0 ∷ 0 ∷ 0 ∷ 32 ∷ [])) 0 0
+    ∷ part-at (replicate 65 7 ++ trailerWith mark (0 ∷ 0 ∷ 0 ∷ 2 ∷ []) (0 ∷ 0 ∷ 0 ∷ 64 ∷ [])) 1 33
+    ∷ no-part (replicate 65 7 ++ trailerWith mark (0 ∷ 0 ∷ 0 ∷ 2 ∷ []) (0 ∷ 0 ∷ 0 ∷ 64 ∷ [])) 2 15
     ∷ []
 
 -- n bits that hold 1 at the places of a set
@@ -113,6 +133,8 @@ Holds (far m t received) =
     → (x ≡ nothingNear) × (left ≡ lentWord) × (list ≡ lentList)
 Holds (told-edit m t word start stretch told) = (left : List ℕ) (x : Outcome) → Edits m t word start stretch x left → outcomeTold x ≡ told
 Holds (told-splice m t start stretch told) = (x : Answer) → Splices (zerosOf m t) start stretch x → outcomeTold (x .outcome) ≡ told
+Holds (part-at book i start) = (x : Found) → Finds book i x → (x .outcome ≡ Done) × (x .from ≡ start) × (x .to ≡ start + 32)
+Holds (no-part book i number) = (x : Found) → Finds book i x → (outcomeNumber (x .outcome) ≡ number) × (x .from ≡ 0) × (x .to ≡ 0)
 Holds (summed m received sums) = (i : ℕ) → i < length sums → sumOf m (2 * i + 1) (bitsAt (nOf m) received) ≡ getD sums i 0
 
 -- the tests
@@ -165,12 +187,26 @@ farTests m t received =
     ∷ noSet m (nOf m) 0 t (listOf t (λ i. sumOf m (2 * i + 1) (bitsAt (nOf m) received)))
     ∷ []
 
+unfoldable partTests : List ℕ → ℕ → ℕ → List Bool
+partTests book i start =
+    isDone (verdict (findChecks book i))
+    ∷ eqb (frameStart book (countOf book) i) start
+    ∷ eqb (frameStart book (countOf book) (i + 1)) (start + 32)
+    ∷ []
+
+-- the checks come to the refusal with this number
+unfoldable refuses : Outcome → ℕ → Bool
+refuses Done number = false
+refuses (Refused r) number = eqb (numberOf r) number
+
 unfoldable test : Case → Bool
 test (sent m t message word) = all (sentTests m t message word)
 test (mended m t received places word) = all (mendedTests m t received places word)
 test (far m t received) = all (farTests m t received)
 test (told-edit m t word start stretch told) = tellsAs (codeVerdict m t (editChecks word start stretch)) told
 test (told-splice m t start stretch told) = tellsAs (codeVerdict m t (spliceChecks (zerosOf m t) start stretch)) told
+test (part-at book i start) = all (partTests book i start)
+test (no-part book i number) = refuses (verdict (findChecks book i)) number
 test (summed m received sums) = hasSums m (bitsAt (nOf m) received) sums
 
 -- what the tests tell
@@ -303,6 +339,22 @@ unfolding hasSums
 summed-holds m received sums t i h =
     eqb→eq _ _ (below-passed (λ j. eqb (sumOf m (2 * j + 1) (bitsAt (nOf m) received)) (getD sums j 0)) (length sums) t i h)
 
+part-holds : (book : List ℕ) (i start : ℕ) → All (partTests book i start) → Holds (part-at book i start)
+unfolding partTests
+part-holds book i start (also a (also b (also c done))) x p =
+    let d = p .done (done-is _ a) in
+    (d .is-done, d .did .starts ∙ eqb→eq _ _ b, d .did .ends ∙ eqb→eq _ _ c)
+
+none-holds : (book : List ℕ) (i number : ℕ) → T (refuses (verdict (findChecks book i)) number) → Holds (no-part book i number)
+unfolding refuses
+none-holds book i number t x p = pick (verdict (findChecks book i)) refl t
+  where
+    pick : (o : Outcome) → verdict (findChecks book i) ≡ o → T (refuses o number) → (outcomeNumber (x .outcome) ≡ number) × (x .from ≡ 0) × (x .to ≡ 0)
+    pick Done e t = absurd t
+    pick (Refused r) e t =
+        let (o, s) = p .refused r e in
+        (ap outcomeNumber o ∙ eqb→eq (numberOf r) number t, ap (λ (s : Span). s .from) s, ap (λ (s : Span). s .to) s)
+
 holds : (c : Case) → T (test c) → Holds c
 unfolding test
 holds (sent m t message word) b = sent-holds m t message word (all-passed (sentTests m t message word) b)
@@ -310,6 +362,8 @@ holds (mended m t received places word) b = mended-holds m t received places wor
 holds (far m t received) b = far-holds m t received (all-passed (farTests m t received) b)
 holds (told-edit m t word start stretch told) b = λ left x p. ap outcomeTold (answer-is (p .promise)) ∙ tells-is _ told b
 holds (told-splice m t start stretch told) b = λ x p. ap outcomeTold (answer-is (p .promise)) ∙ tells-is _ told b
+holds (part-at book i start) b = part-holds book i start (all-passed (partTests book i start) b)
+holds (no-part book i number) b = none-holds book i number b
 holds (summed m received sums) b = summed-holds m received sums b
 
 -- the table
@@ -319,7 +373,8 @@ tests [] = true
 tests (c ∷ cs) = both (test c) (tests cs)
 
 tested : T (tests cases)
-unfolding tests cases test sentTests mendedTests farTests checksPass isDone tellsAs isCodeWord hasSums sameList bitsAt noSet zeroes plusPlace listOf isListed
+unfolding tests cases test sentTests mendedTests farTests partTests refuses checksPass isDone tellsAs isCodeWord hasSums sameList bitsAt noSet zeroes
+    plusPlace hasMark numberAt lacksTrailer sizeIsWrong listOf isListed
     rowOf rowFrom kOf first firsts ks ts listedCodes firstAbove flip flipped differences differencesFrom sumOf sumFrom power _⊗⟨_⟩_ remainder
     carryless horner digits shifted polynomial polynomials _⊕_ someAtLeast
 tested = tt

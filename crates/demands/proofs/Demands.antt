@@ -36,11 +36,16 @@ use Rattle.decode_kept.specs.DecodeKept.{DecodesKept, NoSet, decodeKeptChecks}
 use Rattle.layout.specs.Frame.{wordOf}
 use Rattle.frame.specs.declared.reading.ReadFrame.{ReadFrame}
 use Rattle.frame.specs.Read.{Reads, frameChecks}
-use Rattle.lister.specs.Listing.{Lines, Steps, framesOf}
+use Rattle.book.specs.declared.reading.Looked.{Looked}
+use Rattle.book.specs.declared.reading.Found.{Found}
+use Rattle.book.specs.Book.{IsBook, AreBytes}
+use Rattle.book.specs.Read.{Looks, Finds}
+use Rattle.book.specs.Write.{WritesBook}
+use Rattle.lister.specs.Listing.{Lines, Lists, Steps, framesOf, ListsBook}
 use Rattle.maker.specs.Making.{allLines, GiveAll}
 use Rattle.demands.specs.Words.{OneOutcome, NeverStruck, TellsWhich, NeverBadBit, OneCondition, RefusedStays, NeverLookedAt}
 use Rattle.demands.specs.Words.{Numbered, GaloisField, Divides, LeastCommonMultiple, Received, PassesAgain}
-use Rattle.demands.specs.Words.{After, resulting, Elsewhere, editedMessage, OnlyStretch, joined, EndsShort, MakingRun}
+use Rattle.demands.specs.Words.{After, resulting, Elsewhere, editedMessage, OnlyStretch, CarriedHome, joined, EndsShort, MakingRun}
 use Rattle.demands.proofs.TheCode.{checks-by-rule, k-by-rule, codes-in-number, sizes-by-rule, sizes-n, sizes-as-described, the-field, all-ones}
 use Rattle.demands.proofs.TheCode.{generator-is-lcm, lcm-is-generator, code-by-generator}
 use Rattle.demands.proofs.OneOutcome.{sizes-one, describe-one, encode-one, encode-sends}
@@ -49,6 +54,8 @@ use Rattle.demands.proofs.EditOutcome.{edit-one, edit-encodes, edit-as-
 use Rattle.demands.proofs.KeptOutcome.{open-one, splice-one, decode-kept-one, splice-refused, splice-only}
 use Rattle.demands.proofs.Demand3.{kept-as-opened, kept-as-decoded, whole-splice}
 use Rattle.demands.proofs.FrameOutcome.{make-one, read-one}
+use Rattle.demands.proofs.BookOutcome.{look-one, find-one, read-book-one, write-book-one, list-book-one, book-exactly, book-carried}
+use Rattle.demands.proofs.BookOutcome.{home-listed, find-behind}
 use Rattle.demands.proofs.ListingOutcome.{listing-one, lists-one, lines-so-far, pieces-listed, short-frame}
 use Rattle.demands.proofs.TypedOutcome.{typed-one}
 use Rattle.demands.proofs.MakingOutcome.{give-all-one, run-gives}
@@ -56,7 +63,7 @@ use Rattle.demands.proofs.Exactly.{decode-refused, decode-nothing, deco
 use Rattle.demands.proofs.Struck.{never-answered, mended-again}
 use Rattle.demands.proofs.BadBit.{tells-which, never-bad-bit}
 use Rattle.demands.proofs.Stays.{sizes-stays, describe-stays, decode-stays, decode-kept-stays, read-stays}
-use Rattle.demands.proofs.Lent.{describe-lent, encode-lent, decode-lent, decode-kept-lent, make-lent}
+use Rattle.demands.proofs.Lent.{describe-lent, encode-lent, decode-lent, decode-kept-lent, make-lent, write-book-lent}
 
 pair : {A B : Type 0} {a a′ : A} {b b′ : B} → (a ≡ a′) × (b ≡ b′) → _≡_ {A = A × B} (a, b) (a′, b′)
 pair (e, f) = ap₂ (λ x y. (x, y)) e f
@@ -79,7 +86,12 @@ demand-1 =
       decode-kept = λ stored lentWord lentList x y p q. triple (decode-kept-one p q);
       make-frame = λ reading lent x y p q. pair (make-one p q);
       read-frame = λ frame x y p q. read-one frame p q;
+      look-at-book = λ book x y p q. look-one book p q;
+      find-frame = λ book i x y p q. find-one book i p q;
+      read-book = λ book r s i p q. read-book-one p q;
+      write-book = λ frames lent x y p q. pair (write-book-one p q);
       list-frames = λ first bytes lent x y p q. pair (lists-one p q);
+      list-book = λ book lent x y p q. pair (list-book-one p q);
       read-line = λ line x y p q. typed-one line x y p q;
     }
 
@@ -116,6 +128,9 @@ demand-1-conditions =
       decode-kept = λ p r. decode-kept-refused p r;
       make-frame = λ p. answer-is p;
       read-frame = λ frame p r. read-refused frame p r;
+      look-at-book = λ book p. answer-is p;
+      read-book = λ book i p. answer-is p;
+      write-book = λ p. answer-is p;
     }
 
 -- docs/SCOPE.md 9: "what it returns and what stays in each lent buffer is written down." A refusal leaves everything, and what an output buffer
@@ -133,6 +148,9 @@ demand-1-refused =
       decode-kept = λ p n. decode-kept-stays p n;
       make-frame = λ p n. refused-stays (λ a z. always-stays a z) p n;
       read-frame = λ frame p n. read-stays frame p n;
+      look-at-book = λ book p n. refused-stays (λ a z. always-stays a z) p n;
+      read-book = λ book i p n. refused-stays (λ a z. always-stays a z) p n;
+      write-book = λ p n. refused-stays (λ a z. always-stays a z) p n;
     }
 
 pub demand-1-lent : NeverLookedAt
@@ -143,6 +161,7 @@ demand-1-lent =
       decode = λ same same-list p q. decode-lent same same-list p q;
       decode-kept = λ same same-list p q. decode-kept-lent same same-list p q;
       make-frame = λ same p q. make-lent same p q;
+      write-book = λ same p q. write-book-lent same p q;
     }
 
 -- docs/SCOPE.md 9: "The code is the binary narrow-sense BCH code, fields of 8 to 1,024 elements, the 232 listed codes." Checks 1 and 2 pass exactly for
@@ -260,6 +279,25 @@ demand-3-encoded C p e q f = edit-as-encoded C p e q f
 pub demand-3-only : {m t start : ℕ} {lent stretch left : List ℕ} {x : Outcome} → Edits m t lent start stretch x left
     → OnlyStretch m t lent start (start + length stretch) left
 demand-3-only p = edit-only p
+
+-- docs/SCOPE.md 6.3: "The trailer is always the last 16 bytes, and other bytes may stand before the first frame." Looking at bytes is done and gives a count
+-- exactly if they are a book of so many frames.
+pub book-looked : (book : List ℕ) {x : Looked} (count : ℕ) → AreBytes book → Looks book x → ((x .outcome ≡ Done) × (x .count ≡ count)) ↔ IsBook book count
+book-looked book count b p = book-exactly book count b p
+
+-- docs/SCOPE.md 6.3: "What the writer makes from a list of frames, the reader gives back frame for frame," also with other bytes in front.
+pub book-home : {frames lent book : List ℕ} {x : Outcome} → WritesBook frames lent x book → x ≡ Done → (front : List ℕ) → CarriedHome frames front book
+book-home p e front = book-carried p e front
+
+-- What stands before the frames is not looked at: other bytes there, as many, give the same answer.
+pub book-before : (front front′ rest : List ℕ) {i : ℕ} {x y : Found} → length front ≡ length front′ → 16 ≤ length rest → Finds (front ++ rest) i x
+    → Finds (front′ ++ rest) i y → x ≡ y
+book-before front front′ rest e h p q = find-behind front front′ rest e h p q
+
+-- Its listing is that of the frames themselves.
+pub book-lines : {frames lent book room left : List ℕ} {x : Outcome} {end : ℕ} → WritesBook frames lent x book → x ≡ Done → (front : List ℕ)
+    → ListsBook (front ++ book) room left end → Lists 1 frames room left end
+book-lines p e front l = home-listed p e front l
 
 -- The listing: before more is waited for, the lines of all frames that have come whole are written, in order and numbered from 1; at the end of the input
 -- those of all frames, a short last one refused 9. It does not depend on the pieces in which the input comes.

@@ -18,10 +18,12 @@ use Rattle.kept.specs.declared.Kept.{Kept}
 use Rattle.decode_kept.specs.DecodeKept.{DecodesKept}
 use Rattle.layout.specs.declared.message.Reading.{Reading}
 use Rattle.frame.specs.Make.{Makes}
+use Rattle.book.specs.Write.{WritesBook}
 use Rattle.demands.proofs.OneOutcome.{describe-one, encode-one}
 use Rattle.demands.proofs.Near.{decode-one}
 use Rattle.demands.proofs.KeptOutcome.{decode-kept-one}
 use Rattle.demands.proofs.FrameOutcome.{make-one}
+use Rattle.demands.proofs.BookOutcome.{write-book-one}
 
 -- a promise over other lent contents: the same is left where the answer is done, and the other contents where it is not
 data Moved {L : Type 0} (Promised : L → Type 0) (stays other : L) (answer : Outcome) (left : L) : Type 0 where
@@ -65,6 +67,10 @@ encode-lent same p q = one-buffer (λ l a. encode-one (record { promise = a }) q
 pub make-lent : {reading : Reading} {lent lent′ left left′ : List ℕ} {x y : Outcome} → length lent ≡ length lent′
     → Makes reading lent x left → Makes reading lent′ y left′ → (x ≡ y) × (x ≡ Done → left ≡ left′)
 make-lent same p q = one-buffer (λ l a. make-one a q) (moved (rw same refl) always-moved p)
+
+pub write-book-lent : {frames lent lent′ left left′ : List ℕ} {x y : Outcome} → length lent ≡ length lent′
+    → WritesBook frames lent x left → WritesBook frames lent′ y left′ → (x ≡ y) × (x ≡ Done → left ≡ left′)
+write-book-lent same p q = one-buffer (λ l a. write-book-one a q) (moved (rw same refl) always-moved p)
 
 pub describe-lent : {m t : ℕ} {lent lent′ left left′ : List ℕ} {x y : Described} → length lent ≡ length lent′
     → Describes m t lent x left → Describes m t lent′ y left′ → (x ≡ y) × (x .outcome ≡ Done → left ≡ left′)

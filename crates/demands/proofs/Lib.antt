@@ -6,6 +6,7 @@ pub mod EditOutcome
 pub mod KeptOutcome
 pub mod Demand3
 pub mod FrameOutcome
+pub mod BookOutcome
 pub mod ListingOutcome
 pub mod TypedOutcome
 pub mod MakingOutcome

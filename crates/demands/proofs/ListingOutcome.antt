@@ -10,7 +10,7 @@ use Rattle.sheet.specs.declared.Refusal.the-variants.{FrameLength}
 use Rattle.sheet.specs.declared.Outcome.{Outcome}
 use Rattle.sheet.proofs.VerdictLaws.{unequal}
 use Rattle.line.specs.Line.{lineFor, lineOf, refusedLine}
-use Rattle.lister.specs.Listing.{frameAt, framesOf, LineOf, Lines, no-line, one-more, Lists, Taken, Steps, start, step}
+use Rattle.lister.specs.Listing.{frameAt, framesOf, LineOf, Lines, no-line, one-more, ListsFirst, Taken, Steps, start, step}
 use Rattle.demands.specs.Words.{joined, EndsShort}
 use Rattle.demands.proofs.FrameOutcome.{read-one, line-one}
 
@@ -23,8 +23,8 @@ pub listing-one : {bytes text text′ : List ℕ} {first count : ℕ} → Lines 
 listing-one no-line no-line = refl
 listing-one (one-more p a) (one-more q b) = ap₂ _++_ (listing-one p q) (frame-line-one _ _ a b)
 
-pub lists-one : {bytes lent left left′ : List ℕ} {first end end′ : ℕ} → Lists first bytes lent left end → Lists first bytes lent left′ end′
-    → (end ≡ end′) × (left ≡ left′)
+pub lists-one : {bytes lent left left′ : List ℕ} {first count end end′ : ℕ} → ListsFirst first count bytes lent left end
+    → ListsFirst first count bytes lent left′ end′ → (end ≡ end′) × (left ≡ left′)
 lists-one p q = let e = listing-one (p .lines) (q .lines) in line-one (rw e at (p .written)) (q .written)
 
 pub taken-one : {listed listed′ listed″ : ℕ} {held came text text′ held′ held″ : List ℕ} → Taken listed held came text listed′ held′

@@ -22,11 +22,15 @@ use Rattle.decode.specs.Decode.{Decodes, decodeChecks}
 use Rattle.kept.specs.declared.Answer.{Answer}
 use Rattle.kept.specs.Open.{Opens, openChecks}
 use Rattle.frame.specs.declared.reading.ReadFrame.{ReadFrame}
+use Rattle.book.specs.declared.reading.Looked.{Looked}
+use Rattle.book.specs.declared.reading.Found.{Found}
 use Rattle.blentovar.specs.declared.SizesAnswer.{SizesAnswer}
 use Rattle.blentovar.specs.declared.DecodeAnswer.{DecodeAnswer}
 use Rattle.blentovar.specs.declared.KeptAnswer.{KeptAnswer}
 use Rattle.blentovar.specs.declared.DecodeKeptAnswer.{DecodeKeptAnswer}
 use Rattle.blentovar.specs.declared.ReadAnswer.{ReadAnswer}
+use Rattle.blentovar.specs.declared.LookAnswer.{LookAnswer}
+use Rattle.blentovar.specs.declared.PartAnswer.{PartAnswer}
 use Rattle.blentovar.specs.Layout.{sizesAnswer, keptAnswer}
 use Rattle.blentovar.specs.Answers.{LaidOut}
 use Rattle.demands.specs.Words.{NeverStruck, PassesAgain}
@@ -51,6 +55,9 @@ never-answered =
       decode-kept = λ stored p. never (λ (r : DecodeKeptAnswer). r .number) (λ (x : Decoded). x .outcome) (λ x. refl) p;
       make-frame = λ p. never (λ (r : ℕ). r) (λ (x : Outcome). x) (λ x. refl) p;
       read-frame = λ frame p. never (λ (r : ReadAnswer). r .number) (λ (x : ReadFrame). x .outcome) (λ x. refl) p;
+      look-at-book = λ book p. never (λ (r : LookAnswer). r .number) (λ (x : Looked). x .outcome) (λ x. refl) p;
+      read-book = λ book i p. never (λ (r : PartAnswer). r .number) (λ (x : Found). x .outcome) (λ x. refl) p;
+      write-book = λ p. never (λ (r : ℕ). r) (λ (x : Outcome). x) (λ x. refl) p;
     }
   where
     told : {P : Outcome → Type 0} {r : Told} → LaidOut outcomeTold P r → r .number ≢ struck

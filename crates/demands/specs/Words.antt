@@ -4,10 +4,11 @@ use mathlib.Core.Bool.{cond, _||_}
 use mathlib.Core.List.{List, [], _∷_, _++_}
 use mathlib.Core.Logic.{_≢_, _↔_, _⊎_}
 use Prim.Native.Nat.{ℕ, _+_, _-_, _*_, _/_, _^_, _≤_, _<_}
+use denote.Ref.{RefT, now, ptr}
 use lib.ListN.{length, getD, take, drop, replicate}
 use lib.Seq.{paste}
 use Rattle.sheet.specs.declared.Refusal.{Refusal}
-use Rattle.sheet.specs.declared.Refusal.the-variants.{NothingNear, FrameLength}
+use Rattle.sheet.specs.declared.Refusal.the-variants.{NothingNear, FrameLength, NoSuchFrame}
 use Rattle.sheet.specs.declared.Outcome.{Outcome}
 use Rattle.sheet.specs.declared.Outcome.the-variants.{Done, Refused}
 use Rattle.sheet.specs.declared.Told.{Told}
@@ -40,15 +41,23 @@ use Rattle.layout.specs.Frame.{wordOf}
 use Rattle.frame.specs.declared.reading.ReadFrame.{ReadFrame}
 use Rattle.frame.specs.Make.{Makes, makeChecks}
 use Rattle.frame.specs.Read.{Reads, frameChecks, leadChecks, givenBy, zeros}
+use Rattle.book.specs.declared.reading.Looked.{Looked}
+use Rattle.book.specs.declared.reading.Found.{Found}
+use Rattle.book.specs.Book.{IsBook}
+use Rattle.book.specs.Read.{Looks, bookChecks, Finds, findChecks, emptySpan, spanOf, ReadsPart}
+use Rattle.book.specs.Write.{WritesBook, writeChecks, frameCount}
 use Rattle.blentovar.specs.declared.SizesAnswer.{SizesAnswer}
 use Rattle.blentovar.specs.declared.DecodeAnswer.{DecodeAnswer}
 use Rattle.blentovar.specs.declared.Record.{Record}
 use Rattle.blentovar.specs.declared.KeptAnswer.{KeptAnswer}
 use Rattle.blentovar.specs.declared.DecodeKeptAnswer.{DecodeKeptAnswer}
 use Rattle.blentovar.specs.declared.ReadAnswer.{ReadAnswer}
+use Rattle.blentovar.specs.declared.LookAnswer.{LookAnswer}
+use Rattle.blentovar.specs.declared.PartAnswer.{PartAnswer}
 use Rattle.blentovar.specs.Answers.{SizesAs, DescribesAs, EncodesAs, DecodesAs, EditsAs, OpensAs, SplicesAs, DecodesKeptAs, MakesAs, ReadsAs}
+use Rattle.blentovar.specs.Answers.{LooksAs, ReadsBookAs, WritesBookAs}
 use Rattle.line.specs.Line.{refusedLine}
-use Rattle.lister.specs.Listing.{Lines, Lists}
+use Rattle.lister.specs.Listing.{frameAt, Lines, Lists, ListsBook}
 use Rattle.typed.specs.declared.Typed.{Typed}
 use Rattle.typed.specs.Says.{Answers}
 use Rattle.maker.specs.declared.Progress.{Progress}
@@ -82,7 +91,12 @@ pub record OneOutcome : Type 0 where
       → One (λ (o : Decoded × List ℕ × List ℕ). DecodesKept stored lentWord lentList (o .0) (o .1) (o .2))
   pub make-frame : (reading : Reading) (lent : List ℕ) → One (λ (o : Outcome × List ℕ). Makes reading lent (o .0) (o .1))
   pub read-frame : (frame : List ℕ) → One (Reads frame)
+  pub look-at-book : (book : List ℕ) → One (Looks book)
+  pub find-frame : (book : List ℕ) (i : ℕ) → One (Finds book i)
+  pub read-book : (book r s : RefT (List ℕ)) (i : ℕ) → ReadsPart book i r → ReadsPart book i s → (now r ≡ now s) × (ptr r ≡ ptr s)
+  pub write-book : (frames lent : List ℕ) → One (λ (o : Outcome × List ℕ). WritesBook frames lent (o .0) (o .1))
   pub list-frames : (first : ℕ) (bytes lent : List ℕ) → One (λ (o : ℕ × List ℕ). Lists first bytes lent (o .1) (o .0))
+  pub list-book : (book lent : List ℕ) → One (λ (o : ℕ × List ℕ). ListsBook book lent (o .1) (o .0))
   pub read-line : (line : List ℕ) → One (λ (o : Typed). Answers line o)
 
 -- no call of the library answers the struck number
@@ -99,6 +113,9 @@ pub record NeverStruck : Type 0 where
       → r .number ≢ struck
   pub make-frame : {house poll counter r : ℕ} {lent left : List ℕ} → MakesAs house poll counter lent r left → r ≢ struck
   pub read-frame : (frame : List ℕ) {r : ReadAnswer} → ReadsAs frame r → r .number ≢ struck
+  pub look-at-book : (book : List ℕ) {r : LookAnswer} → LooksAs book r → r .number ≢ struck
+  pub read-book : (book : List ℕ) (i : ℕ) {r : PartAnswer} → ReadsBookAs book i r → r .number ≢ struck
+  pub write-book : {frames lent left : List ℕ} {r : ℕ} → WritesBookAs frames lent r left → r ≢ struck
 
 -- A place of one of the buffers, which stand in the order in which they are looked at. It lies in its buffer and holds more than 1; all that stands before
 -- it there, and every buffer before, holds 0 or 1.
@@ -134,6 +151,9 @@ pub record NeverBadBit : Type 0 where
       → r .number ≢ 5
   pub make-frame : {house poll counter r : ℕ} {lent left : List ℕ} → MakesAs house poll counter lent r left → r ≢ 5
   pub read-frame : (frame : List ℕ) {r : ReadAnswer} → ReadsAs frame r → r .number ≢ 5
+  pub look-at-book : (book : List ℕ) {r : LookAnswer} → LooksAs book r → r .number ≢ 5
+  pub read-book : (book : List ℕ) (i : ℕ) {r : PartAnswer} → ReadsBookAs book i r → r .number ≢ 5
+  pub write-book : {frames lent left : List ℕ} {r : ℕ} → WritesBookAs frames lent r left → r ≢ 5
 
 -- The outcome is what the checks come to. Where an operation searches once they have passed, a refusal is that of a check, or it is 6 and there is nothing
 -- to find; of a frame, also what the lead of the code word near it comes to.
@@ -156,6 +176,9 @@ pub record OneCondition : Type 0 where
   pub make-frame : {reading : Reading} {lent left : List ℕ} {x : Outcome} → Makes reading lent x left → x ≡ verdict (makeChecks lent)
   pub read-frame : (frame : List ℕ) {x : ReadFrame} → Reads frame x → (r : Refusal) → (x .outcome ≡ Refused r)
       ↔ RefusedBy (verdict (frameChecks frame)) r (((r ≡ NothingNear) × Far 8 23 23 (wordOf frame)) ⊎ NearLead (wordOf frame) r)
+  pub look-at-book : (book : List ℕ) {x : Looked} → Looks book x → x .outcome ≡ verdict (bookChecks book)
+  pub read-book : (book : List ℕ) (i : ℕ) {x : Found} → Finds book i x → x .outcome ≡ verdict (findChecks book i)
+  pub write-book : {frames lent left : List ℕ} {x : Outcome} → WritesBook frames lent x left → x ≡ verdict (writeChecks frames lent)
 
 -- where it is refused, every number beside the outcome is 0 and every lent buffer is as it was; Open gives a record of zeros, Splice the record it got
 pub record RefusedStays : Type 0 where
@@ -172,6 +195,9 @@ pub record RefusedStays : Type 0 where
       → x .outcome ≢ Done → (x .wrong ≡ 0) × (word ≡ lentWord) × (list ≡ lentList)
   pub make-frame : {reading : Reading} {lent left : List ℕ} {x : Outcome} → Makes reading lent x left → x ≢ Done → left ≡ lent
   pub read-frame : (frame : List ℕ) {x : ReadFrame} → Reads frame x → x .outcome ≢ Done → givenBy x ≡ zeros
+  pub look-at-book : (book : List ℕ) {x : Looked} → Looks book x → x .outcome ≢ Done → x .count ≡ 0
+  pub read-book : (book : List ℕ) (i : ℕ) {x : Found} → Finds book i x → x .outcome ≢ Done → spanOf x ≡ emptySpan
+  pub write-book : {frames lent left : List ℕ} {x : Outcome} → WritesBook frames lent x left → x ≢ Done → left ≡ lent
 
 -- what an output buffer held before is not looked at: two calls that lend other contents of the same length give the same answer,
 -- and where it is done they leave the same
@@ -190,6 +216,8 @@ pub record NeverLookedAt : Type 0 where
       → (x ≡ y) × (x .outcome ≡ Done → (word ≡ word′) × (list ≡ list′))
   pub make-frame : {reading : Reading} {lent lent′ left left′ : List ℕ} {x y : Outcome} → length lent ≡ length lent′
       → Makes reading lent x left → Makes reading lent′ y left′ → (x ≡ y) × (x ≡ Done → left ≡ left′)
+  pub write-book : {frames lent lent′ left left′ : List ℕ} {x y : Outcome} → length lent ≡ length lent′
+      → WritesBook frames lent x left → WritesBook frames lent′ y left′ → (x ≡ y) × (x ≡ Done → left ≡ left′)
 
 -- 2. the code
 
@@ -288,7 +316,22 @@ pub record OnlyStretch (m t : ℕ) (word : List ℕ) (start end : ℕ) (after : 
   pub long : length after ≡ length word
   pub places : (p : ℕ) → nOf m - kOf m t ≤ p → (p < nOf m - kOf m t + start) ⊎ (nOf m - kOf m t + end ≤ p) → getD after p 0 ≡ getD word p 0
 
--- the two programs
+-- the poll book
+
+-- A book that was written of these frames, taken home with other bytes in front of it, or none. It is a book of as many frames. Each number below the count
+-- gives its frame, the very 32 bytes where they lie in the lent book; every other number is 15, with the empty part at the front.
+pub record CarriedHome (frames front book : List ℕ) : Type 0 where
+  pub is-book : IsBook (front ++ book) (frameCount frames)
+  pub counted : (x : Looked) → Looks (front ++ book) x → (x .outcome ≡ Done) × (x .count ≡ frameCount frames)
+  pub found : (i : ℕ) (x : Found) → Finds (front ++ book) i x → i < frameCount frames
+      → (x .outcome ≡ Done) × (x .from ≡ length front + 32 * i) × (x .to ≡ length front + 32 * i + 32)
+  pub none : (i : ℕ) (x : Found) → Finds (front ++ book) i x → frameCount frames ≤ i → (x .outcome ≡ Refused NoSuchFrame) × (spanOf x ≡ emptySpan)
+  pub frame : (lent r : RefT (List ℕ)) (i : ℕ) → now lent ≡ front ++ book → ReadsPart lent i r → i < frameCount frames
+      → (now r ≡ frameAt frames i) × (ptr r ≡ (ptr lent .0, length front + 32 * i + ptr lent .1))
+  pub empty : (lent r : RefT (List ℕ)) (i : ℕ) → now lent ≡ front ++ book → ReadsPart lent i r → frameCount frames ≤ i
+      → (now r ≡ []) × (ptr r ≡ ptr lent)
+
+-- the programs
 
 -- the pieces in which an input comes, one after another
 abbrev pub joined : List (List ℕ) → List ℕ

@@ -11,7 +11,8 @@ use lib.ListN.{length, take, drop, set, length-append, length-drop, take-append-
 use lib.Seq.{sets, sets-eq, paste, take-at, take-length, drop-drop, drop-append-le, length-take-le}
 use Rattle.sheet.specs.declared.Refusal.{Refusal}
 use Rattle.sheet.specs.Number.{numberOf}
-use Rattle.line.specs.Line.{digitsUpTo, decimal, readText, refusedText, space, newline, readLine, refusedLine, Writes}
+use Rattle.line.specs.Line.{digitsUpTo, decimal, readText, refusedWord, refusedText, space, newline}
+use Rattle.line.specs.Line.{readLine, refusedLine, refusalLine, Writes}
 use Rattle.line.specs.Work.{Put, PutField}
 use Rattle.layout.specs.declared.message.Reading.{Reading}
 
@@ -139,3 +140,10 @@ unfolding refusedLine
 refused-line refusal e p₁ p₂ h =
     let p = put-then (p₁ .put) (p₂ .put) in
     put-line (simp append-assoc (simp (e, append-assoc) at p)) (omega (arith, p₁ .most, p₂ .most))
+
+pub refusal-line : {l m r : List ℕ} {given n : ℕ} (refusal : Refusal) → given ≡ numberOf refusal → m ≡ paste l 0 refusedWord (length refusedWord)
+    → PutField m 8 given newline r n → 128 ≤ length l → Writes (refusalLine refusal) l r n
+unfolding refusalLine
+refusal-line {l} refusal e copied f h =
+    let p = put-then {l = l} (put-copied {s = refusedWord} 0 (omega arith) copied) (f .put) in
+    put-line (simp append-assoc (rw e at p)) (omega (arith, f .most))

@@ -22,13 +22,16 @@ digitsUpTo (suc more) n = cond (ltb n 10) ((48 + n) ∷ []) (digitsUpTo more (n 
 unfoldable pub decimal : ℕ → List ℕ
 decimal n = digitsUpTo (suc n) n
 
--- in ASCII: ` read `, ` refused `, a space, the end of a line
+-- in ASCII: ` read `, `refused `, ` refused `, a space, the end of a line
 
 abbrev pub readText : List ℕ
 readText = 32 ∷ 114 ∷ 101 ∷ 97 ∷ 100 ∷ 32 ∷ []
 
+abbrev pub refusedWord : List ℕ
+refusedWord = 114 ∷ 101 ∷ 102 ∷ 117 ∷ 115 ∷ 101 ∷ 100 ∷ 32 ∷ []
+
 abbrev pub refusedText : List ℕ
-refusedText = 32 ∷ 114 ∷ 101 ∷ 102 ∷ 117 ∷ 115 ∷ 101 ∷ 100 ∷ 32 ∷ []
+refusedText = 32 ∷ refusedWord
 
 abbrev pub space : List ℕ
 space = 32 ∷ []
@@ -43,6 +46,10 @@ readLine f reading wrong =
 
 unfoldable pub refusedLine : ℕ → Refusal → List ℕ
 refusedLine f r = decimal f ++ refusedText ++ decimal (numberOf r) ++ newline
+
+-- docs/SCOPE.md 7.3: "the one line `refused` and the number"
+unfoldable pub refusalLine : Refusal → List ℕ
+refusalLine r = refusedWord ++ decimal (numberOf r) ++ newline
 
 abbrev pub lineFor : ℕ → Outcome → Reading → ℕ → List ℕ
 lineFor f Done reading wrong = readLine f reading wrong

@@ -1,8 +1,8 @@
-// One line of the listing, into a lent buffer.
+// One line of the listing, or the line of an input that is refused as a whole, into a lent buffer.
 
 ghost use Prim.Native.Nat.{_+_, _≤_};
 ghost use lib.ListN.{length};
-ghost use Rattle.line.specs.Line.{decimal, readLine, refusedLine, lineOf, Writes};
+ghost use Rattle.line.specs.Line.{decimal, readLine, refusedLine, refusalLine, lineOf, Writes};
 ghost use Rattle.line.specs.Work.{Put, PutField};
 use frame::ReadFrame;
 use layout::Reading;
@@ -42,6 +42,16 @@ fn write_refused(number: u64, refusal: Refusal, out: &mut [u8]) -> usize
     let given = sheet::number(refusal);
     let at = put_field(out, 0, number, b" refused ");
     put_field(out, at, given as u64, b"\n")
+}
+
+// The line of an input that is refused as a whole. Gives its length.
+pub fn write_refusal(refusal: Refusal, out: &mut [u8]) -> usize
+    requires { ⌜ 128 ≤ length (now out) ⌝ }
+    ensures { λ r. ⌜ Writes (refusalLine refusal) (now (out .entry)) (now (out .exit)) r ⌝ }
+{
+    let given = sheet::number(refusal);
+    bits::copy_at(out, 0, b"refused ");
+    put_field(out, 8, given as u64, b"\n")
 }
 
 // A number and the text after it, from index `at` on. Gives the index past them.

@@ -31,19 +31,22 @@ frame-part bytes from to h e = pick (decLt (from + 32) (length bytes))
         let d = length-drop from bytes in
         take-all (to - from) (drop from bytes) (omega arith) ∙ sym (take-all 32 (drop from bytes) (omega arith))
 
--- the line that is added is the line of the frame
-pub line-added : {number from to long : ℕ} {part : List ℕ} {answer : ReadFrame} (bytes lent : List ℕ) (end room : ℕ) → from ≤ length bytes
-    → to ≡ min (from + 32) (length bytes) → Reads (take (to - from) (drop from bytes)) answer → room ≡ 128 → end + room ≤ length lent
-    → length part ≡ length (take room (drop end lent))
-    → Writes (lineOf number answer) (take room (drop end lent)) part long
-    → AddsLine number (take 32 (drop from bytes)) lent end (putMid end room lent part) (end + long)
-line-added {number} {from} {to} {answer = answer} bytes lent end room h e r few fits l w =
+-- the line that is written is the line of the frame
+pub line-put : {number long : ℕ} {part : List ℕ} {answer : ReadFrame} (frame lent : List ℕ) (end room : ℕ) → Reads frame answer → room ≡ 128
+    → end + room ≤ length lent → length part ≡ length (take room (drop end lent)) → Writes (lineOf number answer) (take room (drop end lent)) part long
+    → AddsLine number frame lent end (putMid end room lent part) (end + long)
+line-put {number} {answer = answer} frame lent end room r few fits l w =
     record {
       line = lineOf number answer;
-      is-line = record { answer = answer; reads = subst (λ (frame : List ℕ). Reads frame answer) (frame-part bytes from to h e) r; is = refl };
+      is-line = record { answer = answer; reads = r; is = refl };
       put = part-put lent end room fits l w;
       most = omega (arith, writes-fits w, length-take room (drop end lent));
     }
+
+pub line-added : {number from to next end : ℕ} {lent left : List ℕ} (bytes : List ℕ) → from ≤ length bytes → to ≡ min (from + 32) (length bytes)
+    → AddsLine number (take (to - from) (drop from bytes)) lent end left next → AddsLine number (take 32 (drop from bytes)) lent end left next
+line-added {number} {from} {to} {next} {end} {lent} {left} bytes h e a =
+    subst (λ (frame : List ℕ). AddsLine number frame lent end left next) (frame-part bytes from to h e) a
 
 -- the lines of no frame, of one frame more, of all of them
 
@@ -102,7 +105,7 @@ one-moved first from i h =
     ∙ ap (movedFront first from) (sym (add-one i))
 
 -- the part between two places is the same whether its end or its start is cut off first
-between : (bytes : List ℕ) (from to : ℕ) → from ≤ to → to ≤ length bytes → drop from (take to bytes) ≡ take (to - from) (drop from bytes)
+pub between : (bytes : List ℕ) (from to : ℕ) → from ≤ to → to ≤ length bytes → drop from (take to bytes) ≡ take (to - from) (drop from bytes)
 between bytes from to h l =
     let e : from + (to - from) ≡ to = omega arith in
     ap (λ (n : ℕ). drop from (take n bytes)) (sym e)

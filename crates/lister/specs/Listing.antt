@@ -1,4 +1,4 @@
--- The listing: what it lists of bytes that came in, and one step of it where they come in pieces.
+-- The listing: what it lists of bytes that came in, one step of it where they come in pieces, and what it lists of a book.
 -- docs/SCOPE.md 7.1: "It writes one line for each frame"; "A short last frame is refused 9. There is no header, and empty input writes nothing."
 use mathlib.Core.Path.{_≡_}
 use mathlib.Core.List.{List, [], _∷_, _++_}
@@ -6,7 +6,12 @@ use Prim.Native.Nat.{ℕ, zero, suc, _+_, _*_, _/_, _%_}
 use lib.ListN.{length, take, drop}
 use Rattle.frame.specs.declared.reading.ReadFrame.{ReadFrame}
 use Rattle.frame.specs.Read.{Reads}
-use Rattle.line.specs.Line.{lineOf, Writes}
+use Rattle.sheet.specs.declared.Refusal.{Refusal}
+use Rattle.sheet.specs.declared.Outcome.the-variants.{Done, Refused}
+use Rattle.sheet.specs.Verdict.{verdict}
+use Rattle.book.specs.Book.{frameStart}
+use Rattle.book.specs.Read.{countOf, bookChecks}
+use Rattle.line.specs.Line.{lineOf, refusalLine, Writes}
 use Rattle.lister.specs.declared.Progress.{Progress}
 
 -- frame i of the bytes, from 0; the last one may be short
@@ -57,3 +62,13 @@ pub record TakesIn (at : Progress) (came : ℕ) (frames lines frames′ lines′
   pub taken : Taken (at .listed) (take (at .held) frames) (take came (drop (at .held) frames)) text (next .listed) (take (next .held) frames′)
   pub written : Writes text lines lines′ (next .end)
   pub held : next .held ≡ (at .held + came) % 32
+
+-- the frames of a book that has so many, as they stand one after another
+abbrev pub framesIn : List ℕ → ℕ → List ℕ
+framesIn book count = take (32 * count) (drop (frameStart book count 0) book)
+
+-- docs/SCOPE.md 7.3: "It writes the lines that the listing writes of the frames, numbered from 1."; "A book that is refused gets the one line `refused` and
+-- the number"
+pub data ListsBook (book lent left : List ℕ) (end : ℕ) : Type 0 where
+  lists : verdict (bookChecks book) ≡ Done → ListsFirst 1 (countOf book) (framesIn book (countOf book)) lent left end → ListsBook book lent left end
+  refuses : (r : Refusal) → verdict (bookChecks book) ≡ Refused r → Writes (refusalLine r) lent left end → ListsBook book lent left end

@@ -3,6 +3,9 @@ use mathlib.Core.Path.{_≡_}
 use mathlib.Core.List.{List, _++_}
 use Prim.Native.Nat.{ℕ, _+_, _*_, _≤_, _<_}
 use lib.ListN.{length, take, drop}
+use Rattle.sheet.specs.declared.Outcome.the-variants.{Done}
+use Rattle.sheet.specs.Verdict.{verdict}
+use Rattle.book.specs.Read.{countOf, bookChecks}
 use Rattle.line.specs.Work.{Put}
 use Rattle.lister.specs.declared.Progress.{Progress}
 use Rattle.lister.specs.Listing.{LineOf, Lines, Steps}
@@ -41,3 +44,8 @@ pub record ListedTo (before : ℕ) (bytes lent left : List ℕ) (i number end : 
 -- so many bytes from a place on stand at the front, and the rest is as it was
 abbrev pub movedFront : List ℕ → ℕ → ℕ → List ℕ
 movedFront bytes from count = take count (drop from bytes) ++ drop count bytes
+
+-- the book passes its checks and has so many frames
+pub record Counts (book : List ℕ) (count : ℕ) : Type 0 where
+  pub passes : verdict (bookChecks book) ≡ Done
+  pub is : count ≡ countOf book

@@ -1,10 +1,13 @@
 // Lists the readings of frames that come in on standard input, a line for each on standard output. What has come is listed before more is waited for.
 
+mod books;
+
 ghost use mathlib.Core.Path.{_≡_};
 ghost use Prim.Native.Nat.{_+_, _*_, _≤_};
 ghost use lib.ListN.{length};
 ghost use Rattle.lister.specs.Listing.{frameAt, ListsFirst, Lists, TakesIn};
 ghost use Rattle.lister.specs.Work.{Room, AddsLine, movedFront};
+pub use books::list_book;
 use libc::STDERR_FILENO;
 use libc::STDOUT_FILENO;
 
@@ -82,9 +85,16 @@ fn end_input(failed: bool, at: Progress, frames: &[u8], lines: &mut [u8])
 fn write_out(end: usize, lines: &[u8]) -> bool
     requires { ⌜ end ≤ length (now lines) ⌝ }
 {
+    write_or_say(end, lines, b"listing: writing standard output failed\n")
+}
+
+// Writes the first `end` bytes, or says that it failed.
+pub(crate) fn write_or_say(end: usize, lines: &[u8], failure: &[u8]) -> bool
+    requires { ⌜ end ≤ length (now lines) ⌝ }
+{
     let written = io::write_all(STDOUT_FILENO, &lines[..end]);
     if !written {
-        io::write_all(STDERR_FILENO, b"listing: writing standard output failed\n");
+        io::write_all(STDERR_FILENO, failure);
     }
     written
 }
@@ -121,7 +131,15 @@ fn add_line(number: u64, i: usize, frames: &[u8], end: usize, lines: &mut [u8]) 
 {
     let from = 32 * i;
     let to = input::least(from + 32, frames.len());
-    let answer = frame::read(&frames[from..to]);
+    put_line(number, &frames[from..to], end, lines)
+}
+
+// The same for the bytes of a frame.
+pub(crate) fn put_line(number: u64, frame: &[u8], end: usize, lines: &mut [u8]) -> usize
+    requires { ⌜ end + 128 ≤ length (now lines) ⌝ }
+    ensures { λ r. ⌜ AddsLine number (now (frame .entry)) (now (lines .entry)) end (now (lines .exit)) r ⌝ }
+{
+    let answer = frame::read(frame);
     let room = end + 128;
     let long = line::write_line(number, answer, &mut lines[end..room]);
     end + long

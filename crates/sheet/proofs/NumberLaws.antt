@@ -7,7 +7,7 @@ use native.Mathlib.Omega.{arith}
 use lib.ListN.{getD}
 use Rattle.sheet.specs.declared.Refusal.{Refusal}
 use Rattle.sheet.specs.declared.Refusal.the-variants.{FieldSize, NotListed, InputLength, OutputLength, BitAboveOne, NothingNear}
-use Rattle.sheet.specs.declared.Refusal.the-variants.{RecordContents, FrameLength, PadBit, LeadBits, StretchEnd}
+use Rattle.sheet.specs.declared.Refusal.the-variants.{RecordContents, FrameLength, PadBit, LeadBits, StretchEnd, NoTrailer, BookSize, NoSuchFrame}
 use Rattle.sheet.specs.declared.Told.{Told}
 use Rattle.sheet.specs.declared.Outcome.{Outcome}
 use Rattle.sheet.specs.declared.Outcome.the-variants.{Done, Refused}
@@ -23,7 +23,8 @@ pub data Row : Type 0 where
 abbrev pub sheet : ℕ → ℕ → List Row
 sheet buffer place =
     none ∷ stands FieldSize ∷ stands NotListed ∷ stands InputLength ∷ stands OutputLength ∷ stands (BitAboveOne buffer place) ∷ stands NothingNear
-    ∷ stands RecordContents ∷ none ∷ stands FrameLength ∷ stands PadBit ∷ stands LeadBits ∷ stands StretchEnd ∷ []
+    ∷ stands RecordContents ∷ none ∷ stands FrameLength ∷ stands PadBit ∷ stands LeadBits ∷ stands StretchEnd
+    ∷ stands NoTrailer ∷ stands BookSize ∷ stands NoSuchFrame ∷ []
 
 -- the row of what is told
 abbrev pub rowAt : Told → Row
@@ -42,6 +43,9 @@ others-kept FrameLength = refl
 others-kept PadBit = refl
 others-kept LeadBits = refl
 others-kept StretchEnd = refl
+others-kept NoTrailer = refl
+others-kept BookSize = refl
+others-kept NoSuchFrame = refl
 
 -- so no refusal has the number of a row in which none stands
 not-there : (r : Refusal) (n : ℕ) → ((buffer place : ℕ) → getD (sheet buffer place) n none ≡ none) → numberOf r ≢ n
@@ -76,6 +80,9 @@ others-plain FrameLength n = refl
 others-plain PadBit n = refl
 others-plain LeadBits n = refl
 others-plain StretchEnd n = refl
+others-plain NoTrailer n = refl
+others-plain BookSize n = refl
+others-plain NoSuchFrame n = refl
 
 pub plain-but-5 : (r : Refusal) → numberOf r ≢ 5 → toldOf r ≡ plainly (numberOf r)
 plain-but-5 r n = others-plain r (λ buffer place e. n (ap numberOf e))

@@ -3,7 +3,7 @@
 use Prim.Native.Nat.{ℕ}
 use Rattle.sheet.specs.declared.Refusal.{Refusal}
 use Rattle.sheet.specs.declared.Refusal.the-variants.{FieldSize, NotListed, InputLength, OutputLength, BitAboveOne, NothingNear}
-use Rattle.sheet.specs.declared.Refusal.the-variants.{RecordContents, FrameLength, PadBit, LeadBits, StretchEnd}
+use Rattle.sheet.specs.declared.Refusal.the-variants.{RecordContents, FrameLength, PadBit, LeadBits, StretchEnd, NoTrailer, BookSize, NoSuchFrame}
 use Rattle.sheet.specs.declared.Told.{Told}
 use Rattle.sheet.specs.declared.Outcome.{Outcome}
 use Rattle.sheet.specs.declared.Outcome.the-variants.{Done, Refused}
@@ -24,6 +24,9 @@ toldOf FrameLength = plainly 9
 toldOf PadBit = plainly 10
 toldOf LeadBits = plainly 11
 toldOf StretchEnd = plainly 12
+toldOf NoTrailer = plainly 13
+toldOf BookSize = plainly 14
+toldOf NoSuchFrame = plainly 15
 
 abbrev pub outcomeTold : Outcome → Told
 outcomeTold Done = plainly 0

@@ -19,7 +19,7 @@ pub enum Refusal {
     // 7: in a kept record one of the first n bits is above 1 or one of the first t sums is 2^m or more.
     RecordContents,
     // 8 is struck, and no refusal gets it again.
-    // 9: a frame is not 32 bytes.
+    // 9: a frame is not 32 bytes; the frames to be written to a book are no multiple of 32 bytes.
     FrameLength,
     // 10: a frame's last bit is 1.
     PadBit,
@@ -27,6 +27,13 @@ pub enum Refusal {
     LeadBits,
     // 12: a stretch runs past the end.
     StretchEnd,
+    // 13: a book is shorter than 16 bytes, or its mark or its last number is wrong.
+    NoTrailer,
+    // 14: a book's count is above 1,000, its distance is not 32 times the count, or it reaches before the start;
+    // the frames to be written are above 32,000 bytes.
+    BookSize,
+    // 15: a book has no frame with this number.
+    NoSuchFrame,
 }
 
 // What the checks of an operation come to, and what an operation answers beside its values.
@@ -101,5 +108,8 @@ pub fn number(r: Refusal) -> u32
         Refusal::PadBit => 10,
         Refusal::LeadBits => 11,
         Refusal::StretchEnd => 12,
+        Refusal::NoTrailer => 13,
+        Refusal::BookSize => 14,
+        Refusal::NoSuchFrame => 15,
     }
 }

@@ -1,6 +1,7 @@
-//! What a program does with Blentovar: it mends a word, reads a damaged frame, and says two refusals in words.
+//! What a program does with Blentovar: it mends a word, reads a damaged frame and a poll book, and says two refusals in words.
 
-use blentovar::{decode, edit, encode, frame_of, read_frame, sizes, Reading, Refusal};
+use blentovar::{decode, edit, encode, frame_of, look_at_book, read_book, read_frame, sizes};
+use blentovar::{write_book, Reading, Refusal, FRAME_BYTES, TRAILER_BYTES};
 use std::error::Error;
 use std::process::ExitCode;
 
@@ -17,6 +18,7 @@ fn main() -> ExitCode {
 fn run() -> Result<(), Box<dyn Error>> {
     mend_a_word(4, 3)?;
     read_a_damaged_frame()?;
+    read_a_book()?;
     be_refused()?;
     be_told_which_bit()
 }
@@ -51,15 +53,16 @@ fn print_numbers<T: ToString>(name: &str, numbers: &[T]) {
     println!("{name} {}", texts.join(" "));
 }
 
-fn read_a_damaged_frame() -> Result<(), Box<dyn Error>> {
-    let mut frame = frame_of(Reading {
-        house: 12,
-        poll: 1,
-        counter: 34_567,
-    });
-    // The bits with the sent numbers 25 and 26.
-    frame[3] ^= 0x60;
-    let received = read_frame(&frame)?;
+fn sent_by(house: u16, poll: u16, counter: u64) -> [u8; FRAME_BYTES] {
+    frame_of(Reading {
+        house,
+        poll,
+        counter,
+    })
+}
+
+fn print_reading(frame: &[u8]) -> Result<(), Box<dyn Error>> {
+    let received = read_frame(frame)?;
     let Reading {
         house,
         poll,
@@ -67,6 +70,26 @@ fn read_a_damaged_frame() -> Result<(), Box<dyn Error>> {
     } = received.reading;
     let wrong = received.wrong;
     println!("house {house}, poll {poll}, counter {counter}, {wrong} wrong places");
+    Ok(())
+}
+
+fn read_a_damaged_frame() -> Result<(), Box<dyn Error>> {
+    let mut frame = sent_by(12, 1, 34_567);
+    // The bits with the sent numbers 25 and 26.
+    frame[3] ^= 0x60;
+    print_reading(&frame)
+}
+
+fn read_a_book() -> Result<(), Box<dyn Error>> {
+    let frames = [sent_by(12, 2, 34_890), sent_by(13, 2, 987)].concat();
+    let mut book = vec![0; frames.len() + TRAILER_BYTES];
+    write_book(&frames, &mut book)?;
+
+    let count = look_at_book(&book)?;
+    println!("a book of {count} frames");
+    for i in 0..count {
+        print_reading(read_book(&book, i)?)?;
+    }
     Ok(())
 }
 

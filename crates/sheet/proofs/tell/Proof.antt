@@ -31,7 +31,7 @@ returns c =
 
 -- where the other variants stand in the enum; 5 stands at 4
 abbrev others-at : List ℕ
-others-at = 0 ∷ 1 ∷ 2 ∷ 3 ∷ 5 ∷ 6 ∷ 7 ∷ 8 ∷ 9 ∷ 10 ∷ []
+others-at = 0 ∷ 1 ∷ 2 ∷ 3 ∷ 5 ∷ 6 ∷ 7 ∷ 8 ∷ 9 ∷ 10 ∷ 11 ∷ 12 ∷ 13 ∷ []
 
 returns-2 : tie.Need-returns-2
 returns-2 c =

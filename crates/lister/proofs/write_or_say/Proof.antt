@@ -2,17 +2,14 @@
 use native.Mathlib.Omega.{arith}
 use lib.ListN.{length-take}
 use borrow.Author.Needs.{needs}
-use Rattle.lister.proofs.write_out.Statement.{statement}
-use Rattle.lister.proofs.write_out.Tie as tie
+use Rattle.lister.proofs.write_or_say.Statement.{statement}
+use Rattle.lister.proofs.write_or_say.Tie as tie
 
 slice-aggregate-write-all : tie.Need-slice-aggregate-write-all
 slice-aggregate-write-all c = simp length-take (omega arith)
 
 write-all-requires : tie.Need-write-all-requires
 write-all-requires c κs = search needs
-
-slice-aggregate-write-all-2 : tie.Need-slice-aggregate-write-all-2
-slice-aggregate-write-all-2 c = search needs
 
 write-all-requires-2 : tie.Need-write-all-requires-2
 write-all-requires-2 c κs = search needs
@@ -23,13 +20,12 @@ returns c = search needs
 returns-2 : tie.Need-returns-2
 returns-2 c = search needs
 
-pub write-out-spec : {M : Type 1} → statement M
-write-out-spec =
+pub write-or-say-spec : {M : Type 1} → statement M
+write-or-say-spec =
     tie.close
     (tie.spec
     slice-aggregate-write-all
     write-all-requires
-    slice-aggregate-write-all-2
     write-all-requires-2
     returns
     returns-2)
