@@ -1,4 +1,4 @@
--- Bits in lists. docs/SCOPE.md 4.1: "Bits are lent one to a byte, 0 or 1, except in frames."
+-- Bits in lists. docs/SCOPE.md 4.1: "Bits are lent one to a byte, 0 or 1, except in frames and books."
 use mathlib.Core.Bool.{Bool, cond}
 use mathlib.Core.List.{List, [], _∷_}
 use Prim.Native.Nat.{ℕ, zero, suc, _+_, _-_, _≤_}
