@@ -1,12 +1,13 @@
 -- The conditions of 13 and 14 as the code tests them, and what is known of a book that passes.
 use mathlib.Core.Path.{_≡_, _∙_, refl, sym, ap, ap₂, subst}
-use mathlib.Core.Bool.{Bool, true, false, not, false≢true, _&&_, _||_}
+use mathlib.Core.Bool.{Bool, true, false, not, _&&_, _||_}
 use mathlib.Core.List.{List, [], _∷_, _++_}
 use Prim.Native.Nat.{ℕ, zero, suc, _+_, _-_, _*_, _≤_, _<_}
 use native.Mathlib.Nat.{add-zero}
 use native.Mathlib.Omega.{arith}
-use borrow.Author.Tests.{lt-ltb, le-ltb, lt-leb, eqb-true, leb-false, ltb-false, not-false}
-use lib.Dec.{eqb, ltb}
+use borrow.Author.Tests.{lt-ltb, le-ltb, lt-leb, leb-false}
+use mir.Facts.{T-not-not, and-yes, or-no, ltb-no, eqb-yes}
+use lib.Dec.{T, eqb, ltb}
 use lib.ListN.{length, getD, take, drop, length-drop}
 use lib.Seq.{getD-take, getD-drop, ext-getD, length-take-le, take-all}
 use denote.Ref.{RefT, now}
@@ -14,14 +15,14 @@ use Rattle.sheet.specs.declared.Outcome.the-variants.{Done, Refused}
 use Rattle.sheet.specs.declared.Refusal.{Refusal}
 use Rattle.sheet.specs.Verdict.{verdict, Promise, Always}
 use Rattle.sheet.specs.Work.{AllPass}
-use Rattle.sheet.proofs.VerdictLaws.{equal, unequal, same-of, all-pass, earlier-refuse, earlier-pass, refuses-as, done-passed, answer-is}
+use Rattle.sheet.proofs.VerdictLaws.{equal, unequal, all-pass, earlier-refuse, earlier-pass, refuses-as, done-passed, answer-is}
 use Rattle.sheet.proofs.VerdictLaws.{Verdict, verdict-cases}
 use Rattle.sheet.proofs.VerdictLaws as VerdictLaws
 use Rattle.book.specs.declared.reading.Found.{Found}
 use Rattle.book.specs.declared.reading.Looked.{Looked}
 use Rattle.book.specs.Book.{mark, frameStart}
-use Rattle.book.specs.Read.{trailerOf, hasMark, numberAt, countOf, distanceOf, lastOf, lacksTrailer, sizeIsWrong, bookChecks, numberChecks, findChecks}
-use Rattle.book.specs.Read.{Looks, Span, emptySpan, spanOf, FrameSpan, Finds, ReadsPart}
+use Rattle.book.specs.Read.{trailerOf, markAt, hasMark, numberAt, countOf, distanceOf, lastOf, lacksTrailer, sizeIsWrong}
+use Rattle.book.specs.Read.{bookChecks, numberChecks, findChecks, Looks, Span, emptySpan, spanOf, FrameSpan, Finds, ReadsPart}
 
 -- the four places from one on
 pub four-places : (l : List ℕ) (at : ℕ) → at + 4 ≤ length l
@@ -42,13 +43,6 @@ four-places l at h =
 
 -- the mark
 
-all-four : (a b c d : Bool) → a && b && c && d ≡ true → (a ≡ true) × (b ≡ true) × (c ≡ true) × (d ≡ true)
-all-four true true true true e = (refl, refl, refl, refl)
-all-four false b c d e = absurd (false≢true e)
-all-four true false c d e = absurd (false≢true e)
-all-four true true false d e = absurd (false≢true e)
-all-four true true true false e = absurd (false≢true e)
-
 pub mark-told : (bytes : List ℕ) → take 4 bytes ≡ mark → hasMark bytes ≡ true
 unfolding hasMark
 mark-told bytes e =
@@ -57,14 +51,16 @@ mark-told bytes e =
     is : (i : ℕ) → i < 4 → getD bytes i 0 ≡ getD mark i 0
     is i h = sym (getD-take 4 bytes i 0 h) ∙ ap (λ (l : List ℕ). getD l i 0) e
 
-pub mark-is : (bytes : List ℕ) → 4 ≤ length bytes → hasMark bytes ≡ true → take 4 bytes ≡ mark
+pub mark-is : (bytes : List ℕ) → 4 ≤ length bytes → T (hasMark bytes) → take 4 bytes ≡ mark
 unfolding hasMark
-mark-is bytes l e =
-    let (a, b, c, d) = all-four _ _ _ _ e in
-    let p = eqb-true (getD bytes 0 0) 80 a in
-    let q = eqb-true (getD bytes 1 0) 79 b in
-    let r = eqb-true (getD bytes 2 0) 76 c in
-    let s = eqb-true (getD bytes 3 0) 76 d in
+mark-is bytes l t =
+    let (three, d) = and-yes (markAt bytes 0 && markAt bytes 1 && markAt bytes 2) (markAt bytes 3) t in
+    let (two, c) = and-yes (markAt bytes 0 && markAt bytes 1) (markAt bytes 2) three in
+    let (a, b) = and-yes (markAt bytes 0) (markAt bytes 1) two in
+    let p : getD bytes 0 0 ≡ 80 = eqb-yes a in
+    let q : getD bytes 1 0 ≡ 79 = eqb-yes b in
+    let r : getD bytes 2 0 ≡ 76 = eqb-yes c in
+    let s : getD bytes 3 0 ≡ 76 = eqb-yes d in
     four-places bytes 0 l ∙ rw (p, q, r, s)
 
 -- a test that tells whether the first four bytes are the mark
@@ -75,7 +71,7 @@ mark-tested bytes true l m same told = sym (mark-told bytes (same refl ∙ m))
 mark-tested bytes false l m same told = no (hasMark bytes) refl
   where
     no : (b : Bool) → hasMark bytes ≡ b → false ≡ b
-    no true e = told (mark-is bytes l e ∙ sym m)
+    no true e = told (mark-is bytes l (subst T (sym e) tt) ∙ sym m)
     no false e = refl
 
 -- the last 16 bytes as the part that the code takes
@@ -125,22 +121,19 @@ sized-as book c d e =
 
 -- a book that passes
 
-none-of-three : (a b c : Bool) → a || b || c ≡ false → (a ≡ false) × (b ≡ false) × (c ≡ false)
-none-of-three false false false e = (refl, refl, refl)
-none-of-three true b c e = absurd (false≢true (sym e))
-none-of-three false true c e = absurd (false≢true (sym e))
-none-of-three false false true e = absurd (false≢true (sym e))
-
 pub record HasTrailer (book : List ℕ) : Type 0 where
   pub long : 16 ≤ length book
-  pub marked : hasMark (trailerOf book) ≡ true
+  pub marked : T (hasMark (trailerOf book))
   pub last : lastOf book ≡ 0
 
 pub has-trailer : (book : List ℕ) → lacksTrailer book ≡ false → HasTrailer book
 unfolding lacksTrailer
 has-trailer book e =
-    let (short, other, last) = none-of-three _ _ _ e in
-    record { long = ltb-false (length book) 16 short; marked = not-false (hasMark (trailerOf book)) other; last = same-of (lastOf book) 0 last }
+    let short = ltb (length book) 16 in
+    let other = not (hasMark (trailerOf book)) in
+    let (first, last) = or-no (short || other) (not (eqb (lastOf book) 0)) (subst (λ (b : Bool). T (not b)) (sym e) tt) in
+    let (long, marked) = or-no short other first in
+    record { long = ltb-no long; marked = T-not-not (hasMark (trailerOf book)) marked; last = eqb-yes (T-not-not (eqb (lastOf book) 0) last) }
 
 pub record RightSize (count distance end : ℕ) : Type 0 where
   pub few : count ≤ 1000
@@ -150,8 +143,11 @@ pub record RightSize (count distance end : ℕ) : Type 0 where
 right-size : (count distance end : ℕ) → sizeIsWrong count distance end ≡ false → RightSize count distance end
 unfolding sizeIsWrong
 right-size count distance end e =
-    let (above, other, before) = none-of-three _ _ _ e in
-    record { few = ltb-false 1000 count above; distance-is = same-of distance (32 * count) other; reaches = ltb-false end distance before }
+    let above = ltb 1000 count in
+    let other = not (eqb distance (32 * count)) in
+    let (first, reaches) = or-no (above || other) (ltb end distance) (subst (λ (b : Bool). T (not b)) (sym e) tt) in
+    let (few, same) = or-no above other first in
+    record { few = ltb-no few; distance-is = eqb-yes (T-not-not (eqb distance (32 * count)) same); reaches = ltb-no reaches }
 
 pub record Passes (book : List ℕ) : Type 0 where
   pub has : HasTrailer book

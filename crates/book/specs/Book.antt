@@ -18,7 +18,8 @@ fourBytes n = n / 2 ^ 24 % 256 ∷ n / 2 ^ 16 % 256 ∷ n / 2 ^ 8 % 256 ∷ n % 
 abbrev pub trailer : ℕ → List ℕ
 trailer count = mark ++ fourBytes count ++ fourBytes (32 * count) ++ fourBytes 0
 
--- docs/SCOPE.md 6.3: "The trailer is always the last 16 bytes, and other bytes may stand before the first frame."
+-- The bytes are a book of so many frames: at most 1,000; 32 times as many bytes back from the trailer is not before the start; the last 16 bytes are the
+-- trailer of that count. docs/SCOPE.md 6.3: "The trailer is always the last 16 bytes, and other bytes may stand before the first frame."
 pub record IsBook (book : List ℕ) (count : ℕ) : Type 0 where
   pub few : count ≤ 1000
   pub reaches : 32 * count + 16 ≤ length book

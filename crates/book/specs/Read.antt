@@ -11,15 +11,18 @@ use Rattle.sheet.specs.declared.Refusal.the-variants.{NoTrailer, BookSize, NoSu
 use Rattle.sheet.specs.Verdict.{Check, _⇒_, Promise, Always}
 use Rattle.book.specs.declared.reading.Looked.{Looked}
 use Rattle.book.specs.declared.reading.Found.{Found}
-use Rattle.book.specs.Book.{frameStart}
+use Rattle.book.specs.Book.{mark, frameStart}
 
 -- the last 16 bytes
 abbrev pub trailerOf : List ℕ → List ℕ
 trailerOf book = drop (length book - 16) book
 
--- `POLL`
+-- the first four bytes are the mark
+abbrev pub markAt : List ℕ → ℕ → Bool
+markAt bytes i = eqb (getD bytes i 0) (getD mark i 0)
+
 unfoldable pub hasMark : List ℕ → Bool
-hasMark bytes = eqb (getD bytes 0 0) 80 && eqb (getD bytes 1 0) 79 && eqb (getD bytes 2 0) 76 && eqb (getD bytes 3 0) 76
+hasMark bytes = markAt bytes 0 && markAt bytes 1 && markAt bytes 2 && markAt bytes 3
 
 -- the 32-bit number in the four bytes from a place on, highest byte first
 unfoldable pub numberAt : List ℕ → ℕ → ℕ

@@ -113,14 +113,15 @@ module _ {frames lent book : List ℕ} {x : Outcome} (p : WritesBook frames lent
   few : length frames ≤ 32000
   few = let (above, rest) = all-pass (writeChecks frames lent) (done-passed p e) in ltb-false 32000 (length frames) above
 
+  no-piece : length frames % 32 ≡ 0
+  no-piece = let (above, (piece, rest)) = all-pass (writeChecks frames lent) (done-passed p e) in same-of (length frames % 32) 0 piece
+
   whole : IsBook (front ++ book) (frameCount frames)
   whole = front-book front (written-book few made)
 
   -- where frame i stands in all of it
   start : (i : ℕ) → frameStart (front ++ book) (frameCount frames) i ≡ length front + 32 * i
-  start i =
-      let (above, (odd, rest)) = all-pass (writeChecks frames lent) (done-passed p e) in
-      omega (arith, length-append front book, written-long made, same-of (length frames % 32) 0 odd)
+  start i = omega (arith, length-append front book, written-long made, no-piece)
 
   home-found : (i : ℕ) (y : Found) → Finds (front ++ book) i y → i < frameCount frames
       → (y .outcome ≡ Done) × (y .from ≡ length front + 32 * i) × (y .to ≡ length front + 32 * i + 32)
@@ -167,8 +168,7 @@ module _ {frames lent book : List ℕ} {x : Outcome} (p : WritesBook frames lent
   -- and its frames are the ones that were written
   home-frames : framesIn (front ++ book) (frameCount frames) ≡ frames
   home-frames =
-      let (above, (odd, rest)) = all-pass (writeChecks frames lent) (done-passed p e) in
-      let count : 32 * frameCount frames ≡ length frames = omega (arith, same-of (length frames % 32) 0 odd) in
+      let count : 32 * frameCount frames ≡ length frames = omega (arith, no-piece) in
       ap (λ (n : ℕ). take (32 * frameCount frames) (drop n (front ++ book))) (start 0)
       ∙ ap (take (32 * frameCount frames)) (drop-append-add front book (32 * 0))
       ∙ ap (take (32 * frameCount frames)) (made .is)
@@ -177,8 +177,7 @@ module _ {frames lent book : List ℕ} {x : Outcome} (p : WritesBook frames lent
   -- so what is listed of it is what the listing lists of them
   pub home-listed : {room left : List ℕ} {end : ℕ} → ListsBook (front ++ book) room left end → Lists 1 frames room left end
   home-listed {room} {left} {end} (lists z l) =
-      let (above, (odd, rest)) = all-pass (writeChecks frames lent) (done-passed p e) in
-      let count : frameCount frames ≡ framesOf frames = omega (arith, same-of (length frames % 32) 0 odd) in
+      let count : frameCount frames ≡ framesOf frames = omega (arith, no-piece) in
       let counted = subst (λ (n : ℕ). ListsFirst 1 n (framesIn (front ++ book) n) room left end) (book-count whole) l in
       let same = subst (λ (l : List ℕ). ListsFirst 1 (frameCount frames) l room left end) home-frames counted in
       subst (λ (n : ℕ). ListsFirst 1 n frames room left end) count same
