@@ -5,6 +5,13 @@
  * i of a word is the coefficient of x^i. The code of (m, t) has n = 2^m - 1
  * places, k of them for the message; t is the most wrong places that are mended.
  *
+ * A frame begins with three lead bits, the highest of its first byte: 1, 0, 1. If
+ * they are others after mending, the frame is refused. So a line that is stuck at
+ * zero, as a receiver with its feed off hears it, or at one gives no reading,
+ * also with up to 23 changed bits: BLENTOVAR_PAD_BIT if its last bit is 1, else
+ * BLENTOVAR_LEAD_BITS. Frames made by version 0.5 and before carry 0, 0, 0 and
+ * are refused BLENTOVAR_LEAD_BITS, so sender and reader change together.
+ *
  * A poll book is frames of 32 bytes one after another as they were received, at
  * most 1,000 of them, and after them a trailer, which is always its last 16
  * bytes. The trailer has the four bytes POLL and then three 32-bit numbers,
@@ -48,8 +55,8 @@ extern "C" {
 /* The version of this header and of the library that goes with it, and the
  * same as one number: 10,000 times the first part, 100 times the second, and
  * the third. */
-#define BLENTOVAR_VERSION "0.5.0"
-#define BLENTOVAR_VERSION_NUMBER 500
+#define BLENTOVAR_VERSION "0.6.0"
+#define BLENTOVAR_VERSION_NUMBER 600
 
 /* The sheet. */
 enum {

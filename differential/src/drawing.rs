@@ -10,7 +10,7 @@ use crate::words::{Decode, Describe, Edit, Encode, Sizes};
 use second::answers::Answers;
 use second::book::TRAILER_BYTES;
 use second::codes::listed;
-use second::frames::{frame_of_word, Reading, FRAME_BYTES};
+use second::frames::{frame_of_word, Reading, FRAME_BYTES, LEAD};
 use second::kept::{Kept, BITS, SUMS};
 
 /// A check meets a fault in one call of so many.
@@ -146,7 +146,7 @@ impl Drawing {
         MakeFrame { reading, frame }
     }
 
-    /// A sent frame, one time in four with random lead bits, with up to 25 wrong bits, or random bytes; then faults.
+    /// A sent frame, one time in four with random lead bits, or a stuck line, either with up to 25 wrong bits; or random bytes; then faults.
     fn read_frame(&mut self) -> ReadFrame {
         let mut frame = if self.draw.one_in(FAULT) {
             self.draw.bytes(FRAME_BYTES)
@@ -163,15 +163,25 @@ impl Drawing {
     }
 
     fn damaged_frame(&mut self) -> Vec<u8> {
-        let mut message = self.draw.bits(99);
-        if !self.draw.one_in(4) {
-            message[96..].fill(0);
-        }
-        let word = self.answers.encode(8, 23, &message, 255);
-        let mut word = word.expect("the code of the link is listed");
+        let mut word = if self.draw.one_in(FAULT) {
+            vec![self.draw.pick(&[0, 1]); 255]
+        } else {
+            self.sent_word()
+        };
         let count = self.draw.below(26);
         self.draw.flip(&mut word, count);
         frame_of_word(&word).to_vec()
+    }
+
+    /// A code word of the link. The last place of its message is sent first, so the lead stands there backwards.
+    fn sent_word(&mut self) -> Vec<u8> {
+        let mut sent = self.draw.bits(99);
+        if !self.draw.one_in(4) {
+            sent[..LEAD.len()].copy_from_slice(&LEAD);
+        }
+        let message: Vec<u8> = sent.into_iter().rev().collect();
+        let word = self.answers.encode(8, 23, &message, 255);
+        word.expect("the code of the link is listed")
     }
 
     fn look_at_book(&mut self) -> LookAtBook {

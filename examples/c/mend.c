@@ -6,9 +6,9 @@
 
 #include "blentovar.h"
 
-/* Functions and structs may change with the second part of the version. */
-#if BLENTOVAR_VERSION_NUMBER < 500 || BLENTOVAR_VERSION_NUMBER >= 600
-#error "this program was written for Blentovar 0.5"
+/* Functions, structs and the frame may change with the second part of the version. */
+#if BLENTOVAR_VERSION_NUMBER < 600 || BLENTOVAR_VERSION_NUMBER >= 700
+#error "this program was written for Blentovar 0.6"
 #endif
 
 /* What each number says. 8 is struck, so nothing stands there. */

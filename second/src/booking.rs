@@ -59,7 +59,8 @@ fn refused(refusal: Refusal) -> String {
 
 #[cfg(test)]
 mod tests {
-    use super::{book_listing, booking, Written};
+    use super::{book_listing, booking, Link, Written};
+    use crate::frames::Reading;
 
     fn written(output: &[u8], messages: &str) -> Written {
         Written {
@@ -78,10 +79,15 @@ mod tests {
 
     #[test]
     fn a_book_is_listed_or_the_refusal_is_its_line() {
-        let mut frames = [0; 64];
-        frames[32 + 5] = 129;
+        let reading = Reading {
+            house: 1,
+            poll: 2,
+            counter: 3,
+        };
+        let mut frames = Link::default().make(reading).repeat(2);
+        frames[32 + 5] ^= 129;
         let book = [vec![9; 5], booking(&frames).output].concat();
-        let lines = b"1 read 0 0 0 0\n2 read 0 0 0 2\n";
+        let lines = b"1 read 1 2 3 0\n2 read 1 2 3 2\n";
         assert_eq!(book_listing(&book), written(lines, ""));
         assert_eq!(book_listing(&book[5..]), written(lines, ""));
         assert_eq!(book_listing(&book[6..]), written(b"refused 14\n", ""));

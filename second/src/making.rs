@@ -62,7 +62,7 @@ fn number(text: &[u8]) -> Option<u128> {
 #[cfg(test)]
 mod tests {
     use super::{made, reading};
-    use crate::frames::Reading;
+    use crate::frames::{Link, Reading};
 
     #[test]
     fn the_largest_values_are_taken_and_the_next_refused() {
@@ -101,11 +101,23 @@ mod tests {
 
     #[test]
     fn a_last_line_without_its_end_counts() {
+        let one = made(b"0 0 0\n").frames;
         let two = made(b"0 0 0\n\n0 0 0");
-        assert_eq!(two.frames, [0; 64]);
+        assert_eq!(two.frames, one.repeat(2));
         let message = "line 2: not a house, a poll number and a counter\n";
         assert_eq!(two.messages, message);
-        assert_eq!(made(b"0 0 0\n").frames, [0; 32]);
         assert!(made(b"").messages.is_empty());
+    }
+
+    #[test]
+    fn the_frame_of_zeros_has_the_lead_and_reads_back() {
+        let zeros = Reading {
+            house: 0,
+            poll: 0,
+            counter: 0,
+        };
+        let frame = made(b"0 0 0\n").frames;
+        assert_eq!(frame[..12], [0b1010_0000, 0, 0, 0, 0, 0, 0, 0, 0, 0, 0, 0]);
+        assert_eq!(Link::default().read(&frame), Ok((zeros, 0)));
     }
 }

@@ -1,4 +1,4 @@
-//! Nights of made-up readings as they might come in, most frames clean, some with a few wrong bits, some beyond mending; and books of such frames.
+//! Nights of made-up readings as they might come in, most frames clean, some with a few wrong bits, some beyond mending, some of a line that is stuck; and books of such frames.
 
 use crate::book::{written, MOST_FRAMES};
 use crate::frames::{Link, Reading, FRAME_BYTES};
@@ -64,7 +64,8 @@ fn frame(link: &Link, house: u16, poll: u16, made_up: &mut MadeUp) -> [u8; FRAME
         2 => flip(&mut frame, 6, 23, made_up),
         3 => flip(&mut frame, 24, 53, made_up),
         4 if house % 4 == 1 => frame[FRAME_BYTES - 1] |= 1,
-        4 if house % 4 == 2 => frame = all_ones(),
+        4 if house % 4 == 2 => frame = stuck_at_one(),
+        4 if house % 4 == 3 => frame = stuck_at_zero(house, poll),
         _ => {}
     }
     frame
@@ -89,10 +90,18 @@ fn flip(frame: &mut [u8; FRAME_BYTES], least: usize, most: usize, made_up: &mut 
     }
 }
 
-/// A code word whose lead bits are wrong.
-fn all_ones() -> [u8; FRAME_BYTES] {
+/// A line stuck at one while the 255 bits of a word come in.
+fn stuck_at_one() -> [u8; FRAME_BYTES] {
     let mut frame = [255; FRAME_BYTES];
     frame[FRAME_BYTES - 1] = 254;
+    frame
+}
+
+/// A line stuck at zero, as it is or with a few changed bits. They are drawn apart, so that a stuck line moves no draw of the frames after it.
+fn stuck_at_zero(house: u16, poll: u16) -> [u8; FRAME_BYTES] {
+    let mut frame = [0; FRAME_BYTES];
+    let mut made_up = MadeUp::new(u64::from(poll * HOUSES + house));
+    flip(&mut frame, 0, 5, &mut made_up);
     frame
 }
 
@@ -109,6 +118,15 @@ mod tests {
         let book = full_book();
         assert_eq!((book.len(), count(&book)), (32_039, Some(1_000)));
         assert!(frames(6).starts_with(&book[23..32_023]));
+    }
+
+    #[test]
+    fn stuck_lines_are_refused() {
+        let link = Link::default();
+        assert_eq!(link.read(&stuck_at_one()), Err(11));
+        for house in 0..HOUSES {
+            assert_eq!(link.read(&stuck_at_zero(house, 1)), Err(11));
+        }
     }
 
     #[test]

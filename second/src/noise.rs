@@ -13,7 +13,7 @@ const PATTERNS: usize = 100_000;
 const FRAMES_A_NIGHT: u32 = 1_000_000;
 const NIGHTS_A_YEAR: u32 = 365;
 
-/// A frame has 256 bits; pad and lead bits are fixed, so 96 bits choose the code words that are readings.
+/// A frame has 256 bits; pad and lead bits are fixed, so 96 bits choose the code words that are readings. With the lead 1 0 1 these are no linear space, but each message has one code word, so there are 2^96 of them.
 const READING_EXPONENT: u32 = 256 - 96;
 /// A word has 255 bits, and 99 of them choose the code word.
 const WORD_EXPONENT: u32 = 255 - 99;
@@ -22,7 +22,7 @@ pub fn text() -> String {
     let code = listed(8, 23).expect("the code of the link is listed");
     let mut text = String::new();
     text += "256 random bits, each 0 or 1 with chance 1/2, read as a frame. Balls of radius 23 or less around code words do not meet, so this is counted and exact:\n";
-    text += "a reading with at most r wrong places: V(255, r) in 2^160; some code word within r of 255 random bits: V(255, r) in 2^156.\n\n";
+    text += "a reading, which has pad 0 and lead 1 0 1, with at most r wrong places: V(255, r) in 2^160; some code word within r of 255 random bits: V(255, r) in 2^156.\n\n";
     for radius in RADII {
         text += &radius_lines(&code, radius);
     }
@@ -107,6 +107,7 @@ fn rounded(digits: &str, shift: usize) -> String {
 mod tests {
     use super::{ball, chance, mended_into_another, rounded, RADII};
     use crate::codes::listed;
+    use crate::frames::LEAD;
     use crate::made_up::MadeUp;
     use crate::natural::Natural;
     use crate::nearest::{code_words, wrong_places};
@@ -134,14 +135,28 @@ mod tests {
         }
     }
 
+    /// How many of all words of 15 bits are within the radius of one of these.
+    fn near(words: &[u32], radius: usize) -> Natural {
+        let is_near = |word: &u32| wrong_places(words, radius, *word).is_some();
+        Natural::of((0..1 << 15).filter(is_near).count() as u32)
+    }
+
     #[test]
     fn the_chance_for_short_words_is_that_of_counting_them() {
-        let code = listed(4, 3).expect("a listed code");
-        let words = code_words(&code);
+        let words = code_words(&listed(4, 3).expect("a listed code"));
         for radius in 0..=3 {
-            let near = (0..1 << 15).filter(|w| wrong_places(&words, radius, *w).is_some());
-            let counted = Natural::of(near.count() as u32);
-            assert_eq!(ball(15, radius as u32).doubled(5), counted);
+            assert_eq!(ball(15, radius as u32).doubled(5), near(&words, radius));
+        }
+    }
+
+    #[test]
+    fn the_chance_for_short_words_with_the_lead_is_that_of_counting_them() {
+        let words = code_words(&listed(4, 3).expect("a listed code"));
+        let bit = |word: u32, sent: usize| (word >> (14 - sent) & 1) as u8;
+        let has_lead = |word: &u32| LEAD == [0, 1, 2].map(|sent| bit(*word, sent));
+        let readings: Vec<u32> = words.into_iter().filter(has_lead).collect();
+        for radius in 0..=3 {
+            assert_eq!(ball(15, radius as u32).doubled(2), near(&readings, radius));
         }
     }
 

@@ -43,12 +43,12 @@ pub fn make_frame(reading: Reading, frame: &mut [u8]) -> Result<(), Refusal> {
     Refusal::check(library::make_frame(house, poll, counter, frame))
 }
 
-/// The frame of a reading.
+/// The frame of a reading. It begins with three lead bits, the highest of its first byte: 1, 0, 1.
 ///
 /// ```
 /// use blentovar::{frame_of, Reading};
 /// let reading = Reading { house: 0, poll: 0, counter: 0 };
-/// assert_eq!(frame_of(reading), [0; 32]);
+/// assert_eq!(frame_of(reading)[0] >> 5, 0b101);
 /// ```
 pub fn frame_of(reading: Reading) -> [u8; FRAME_BYTES] {
     let mut frame = [0; FRAME_BYTES];
@@ -67,6 +67,15 @@ pub fn frame_of(reading: Reading) -> [u8; FRAME_BYTES] {
 /// assert_eq!((received.reading, received.wrong), (reading, 2));
 /// # Ok::<(), blentovar::Refusal>(())
 /// ```
+///
+/// If its lead is not 1, 0, 1 after mending, the frame is refused. So a line that is stuck at zero, as a receiver with its feed off hears it, or at one gives no reading, also with up to 23 changed bits.
+///
+/// ```
+/// use blentovar::{read_frame, Refusal};
+/// assert_eq!(read_frame(&[0; 32]), Err(Refusal::LeadBits));
+/// ```
+///
+/// Frames made by version 0.5 and before carry 0, 0, 0 and are refused by the same number, so sender and reader change together.
 pub fn read_frame(frame: &[u8]) -> Result<Received, Refusal> {
     let answer = library::read_frame(frame);
     Refusal::check(answer.number)?;

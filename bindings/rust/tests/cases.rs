@@ -123,6 +123,19 @@ fn read(frame: &[u8]) -> Result<(Reading, usize), Refusal> {
 
 #[test]
 fn the_frames_of_the_listing() {
+    let mut silent = [0; 32];
+    assert_eq!(read(&silent), Err(Refusal::LeadBits));
+    silent[5] = 129;
+    assert_eq!(read(&silent), Err(Refusal::LeadBits));
+    let mut ones = [255; 32];
+    assert_eq!(read(&ones), Err(Refusal::PadBit));
+    ones[31] = 254;
+    assert_eq!(read(&ones), Err(Refusal::LeadBits));
+    assert_eq!(read(&[0; 5]), Err(Refusal::FrameLength));
+}
+
+#[test]
+fn a_reading_of_zeros_is_told_from_silence() {
     let zeros = Reading {
         house: 0,
         poll: 0,
@@ -130,13 +143,14 @@ fn the_frames_of_the_listing() {
     };
     let mut frame = frame_of(zeros);
     assert_eq!(read(&frame), Ok((zeros, 0)));
-    frame[5] = 129;
+    frame[5] ^= 129;
     assert_eq!(read(&frame), Ok((zeros, 2)));
-    let mut ones = [255; 32];
-    assert_eq!(read(&ones), Err(Refusal::PadBit));
-    ones[31] = 254;
-    assert_eq!(read(&ones), Err(Refusal::LeadBits));
-    assert_eq!(read(&[0; 5]), Err(Refusal::FrameLength));
+    frame[5] ^= 129;
+    // The first 23 bits that are sent: no bit of the lead arrives as it was.
+    for (byte, change) in frame.iter_mut().zip([255, 255, 254]) {
+        *byte ^= change;
+    }
+    assert_eq!(read(&frame), Ok((zeros, 23)));
 }
 
 #[test]

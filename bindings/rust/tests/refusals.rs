@@ -159,7 +159,7 @@ fn decode_kept_refuses_in_order() {
 }
 
 #[test]
-fn frames_refuse_in_order() {
+fn making_a_frame_refuses_other_lengths() {
     let reading = Reading {
         house: 1,
         poll: 2,
@@ -170,19 +170,93 @@ fn frames_refuse_in_order() {
         assert_eq!(number(make_frame(reading, &mut frame)), 9);
         assert_eq!(frame, vec![7; length]);
     }
-    // Near to no code word, as the second program finds too.
-    let mut made_up: Vec<u8> = (1..=32).collect();
-    made_up[0] |= 224;
-    assert_eq!(number(read_frame(&[255; 31])), 9);
-    assert_eq!(number(read_frame(&[])), 9);
-    assert_eq!(number(read_frame(&made_up)), 6);
-    made_up[31] |= 1;
-    assert_eq!(number(read_frame(&made_up)), 10);
 }
 
 /// The number that is due where each check has its number or, where it passes, 0.
 fn first_of(checks: &[u32]) -> u32 {
     *checks.iter().find(|number| **number != 0).unwrap_or(&0)
+}
+
+/// A frame of made-up fields whose word is encoded with this lead, its first sent bit the highest.
+fn frame_with_lead(lead: u8) -> Vec<u8> {
+    let mut message: Vec<u8> = (0..96).map(|place| u8::from(place % 3 == 0)).collect();
+    message.extend([0, 1, 2].map(|place| lead >> place & 1));
+    let mut word = [0; 255];
+    encode(8, 23, &message, &mut word).expect("the message is taken");
+    let mut frame = vec![0; 32];
+    for (place, bit) in word.iter().enumerate() {
+        let sent = 254 - place;
+        frame[sent / 8] |= bit << (7 - sent % 8);
+    }
+    frame
+}
+
+/// What is changed in the first bytes of a frame, and the number that it is refused by: nothing, 23 bits, and 24, which leave no code word near, as the second program finds too.
+const CHANGES: [(&[u8], u32); 5] = [
+    (&[], 0),
+    (&[64; 23], 0),
+    (&[255, 255, 254], 0),
+    (&[64; 24], 6),
+    (&[255, 255, 255], 6),
+];
+
+#[test]
+fn reading_a_frame_refuses_in_order() {
+    assert_eq!(number(read_frame(&[])), 9);
+    for lead in 0..8 {
+        let of_lead = if lead == 0b101 { 0 } else { 11 };
+        for (changes, of_changes) in CHANGES {
+            for (pad, of_pad) in [(0, 0), (1, 10)] {
+                let mut frame = frame_with_lead(lead);
+                for (byte, change) in frame.iter_mut().zip(changes) {
+                    *byte ^= change;
+                }
+                frame[31] |= pad;
+                let due = first_of(&[of_pad, of_changes, of_lead]);
+                assert_eq!(number(read_frame(&frame)), due, "{lead} {changes:?} {pad}");
+                assert_eq!(number(read_frame(&frame[..31])), 9);
+                frame.push(pad);
+                assert_eq!(number(read_frame(&frame)), 9);
+            }
+        }
+    }
+}
+
+/// What a line gives that is stuck at this byte, with these sent bits changed and this pad.
+fn stuck(at: u8, changed: &[usize], pad: u8) -> [u8; 32] {
+    let mut frame = [at; 32];
+    for sent in changed {
+        frame[sent / 8] ^= 128 >> (sent % 8);
+    }
+    frame[31] = (frame[31] & 254) | pad;
+    frame
+}
+
+/// Sets of up to 23 sent bits from one of the first 13 on: neighbours, every second one, and every eleventh.
+fn up_to_23_bits() -> Vec<Vec<usize>> {
+    let mut sets = Vec::new();
+    for step in [1, 2, 11] {
+        for first in 0..13 {
+            let bits = |count| (0..count).map(|i| first + step * i).collect();
+            sets.extend((0..=23).map(bits));
+        }
+    }
+    sets
+}
+
+#[test]
+fn a_line_stuck_at_zero_or_at_one_is_refused() {
+    // Two of the sets that make the received lead the right one.
+    assert_eq!(stuck(0, &[0, 2], 0)[0] >> 5, 0b101);
+    assert_eq!(stuck(255, &[1], 0)[0] >> 5, 0b101);
+    for changed in up_to_23_bits() {
+        for at in [0, 255] {
+            for (pad, due) in [(0, 11), (1, 10)] {
+                let frame = stuck(at, &changed, pad);
+                assert_eq!(number(read_frame(&frame)), due, "{at} {changed:?}");
+            }
+        }
+    }
 }
 
 /// Zeros, and after them a trailer.

@@ -2,19 +2,21 @@
 use mathlib.Core.Path.{_≡_, _∙_, refl, sym, ap, ap₂, subst}
 use mathlib.Core.Bool.{Bool, true, false}
 use mathlib.Core.List.{List, [], _∷_, _++_, List·Memᴰ, List·Memᴰ·head, List·Memᴰ·tail, List·Memᴰ·not-nil}
-use Prim.Native.Nat.{ℕ, _+_, _-_, _*_, _^_, _<_}
+use mathlib.Core.Logic.{_⊎_, inl, inr}
+use Prim.Native.Nat.{ℕ, zero, suc, _+_, _-_, _*_, _^_, _≤_, _<_}
 use native.Mathlib.Omega.{arith}
 use lib.Dec.{T, eqb, leb, eqb→eq, leb→le}
 use lib.ListN.{length, getD, replicate, length-replicate}
-use Rattle.sheet.specs.declared.Refusal.the-variants.{NothingNear}
+use Rattle.sheet.specs.declared.Refusal.{Refusal}
+use Rattle.sheet.specs.declared.Refusal.the-variants.{NothingNear, LeadBits}
 use Rattle.sheet.specs.declared.Outcome.{Outcome}
 use Rattle.sheet.specs.declared.Outcome.the-variants.{Done, Refused}
 use Rattle.sheet.specs.declared.Told.{Told}
 use Rattle.sheet.specs.Number.{outcomeTold, numberOf, outcomeNumber}
 use Rattle.sheet.specs.Verdict.{verdict, finds-nothing}
-use Rattle.sheet.proofs.VerdictLaws.{does, always, answer-is}
+use Rattle.sheet.proofs.VerdictLaws.{does, always, answer-is, not-done}
 use Rattle.bits.specs.Bits.{AreBits, listOf, firstAbove, flip, flipped}
-use Rattle.bits.specs.Differences.{differences, differencesFrom}
+use Rattle.bits.specs.Differences.{differences, differencesFrom, distance}
 use Rattle.bits.proofs.Lists.{length-list, list-at}
 use Rattle.bits.proofs.BitLaws.{length-flipped, bits-flipped, bits-replicate}
 use Rattle.bits.proofs.DistanceLaws.{distance-length}
@@ -37,11 +39,17 @@ use Rattle.kept.specs.declared.Kept.{Kept}
 use Rattle.kept.specs.declared.Answer.{Answer}
 use Rattle.kept.specs.Record.{someAtLeast}
 use Rattle.splice.specs.Splice.{Splices, spliceChecks}
+use Rattle.layout.specs.Frame.{sentBit, placeBit, wordOf}
+use Rattle.frame.specs.declared.reading.ReadFrame.{ReadFrame}
+use Rattle.frame.specs.Read.{Reads, frameChecks, givenBy, zeros}
 use Rattle.book.specs.declared.reading.Found.{Found}
 use Rattle.book.specs.Book.{mark, frameStart}
 use Rattle.book.specs.Read.{hasMark, numberAt, countOf, lacksTrailer, sizeIsWrong, findChecks, Span, Finds}
 use Rattle.demands.proofs.OneOutcome.{encode-one}
 use Rattle.demands.proofs.Near.{mendedBy, mended-is, decode-one}
+use Rattle.demands.specs.Words.{StuckAt}
+use Rattle.demands.proofs.Stays.{read-stays}
+use Rattle.demands.proofs.StuckLine.{stuck-refused}
 use Rattle.demands.proofs.NoSet.{zeroes, plusPlace, noSet, nothing-located}
 
 pub data Case : Type 0 where
@@ -61,6 +69,10 @@ pub data Case : Type 0 where
   part-at : List ℕ → ℕ → ℕ → Case
   -- a book, a frame number, the number of the refusal, which comes with the empty part at the front
   no-part : List ℕ → ℕ → ℕ → Case
+  -- a frame that is refused before it is mended, the number of the refusal, which comes with zeros
+  no-frame : List ℕ → ℕ → Case
+  -- a bit, a frame with pad 0 of a line stuck at that bit: refused 11, with zeros
+  stuck-line : ℕ → List ℕ → Case
 
 -- 5, with a buffer and a place
 abbrev pub badBit : ℕ → ℕ → Told
@@ -96,6 +108,11 @@ cases =
     ∷ part-at (replicate 32 7 ++ trailerWith mark (0 ∷ 0 ∷ 0 ∷ 1 ∷ []) (0 ∷ 0 ∷ 0 ∷ 32 ∷ [])) 0 0
     ∷ part-at (replicate 65 7 ++ trailerWith mark (0 ∷ 0 ∷ 0 ∷ 2 ∷ []) (0 ∷ 0 ∷ 0 ∷ 64 ∷ [])) 1 33
     ∷ no-part (replicate 65 7 ++ trailerWith mark (0 ∷ 0 ∷ 0 ∷ 2 ∷ []) (0 ∷ 0 ∷ 0 ∷ 64 ∷ [])) 2 15
+    ∷ stuck-line 0 (replicate 32 0)
+    ∷ stuck-line 0 (replicate 5 0 ++ (129 ∷ replicate 26 0))
+    ∷ no-frame (replicate 32 255) 10
+    ∷ stuck-line 1 (replicate 31 255 ++ (254 ∷ []))
+    ∷ no-frame (replicate 5 0) 9
     ∷ []
 
 -- n bits that hold 1 at the places of a set
@@ -118,6 +135,10 @@ nothingNear = record { outcome = Refused NothingNear; wrong = 0 }
 abbrev pub zerosOf : ℕ → ℕ → Kept
 zerosOf m t = record { m = m; t = t; bits = replicate 1023 0; sums = replicate 255 0 }
 
+-- every reading of a frame is refused with this number
+abbrev pub Unread : List ℕ → ℕ → Type 0
+Unread frame number = (x : ReadFrame) → Reads frame x → (outcomeNumber (x .outcome) ≡ number) × (givenBy x ≡ zeros)
+
 -- what a case says: every outcome that the promise allows is this one
 abbrev pub Holds : Case → Type 0
 Holds (sent m t message word) =
@@ -135,6 +156,8 @@ Holds (told-edit m t word start stretch told) = (left : List ℕ) (x : Outcome) 
 Holds (told-splice m t start stretch told) = (x : Answer) → Splices (zerosOf m t) start stretch x → outcomeTold (x .outcome) ≡ told
 Holds (part-at book i start) = (x : Found) → Finds book i x → (x .outcome ≡ Done) × (x .from ≡ start) × (x .to ≡ start + 32)
 Holds (no-part book i number) = (x : Found) → Finds book i x → (outcomeNumber (x .outcome) ≡ number) × (x .from ≡ 0) × (x .to ≡ 0)
+Holds (no-frame frame number) = Unread frame number
+Holds (stuck-line bit frame) = Unread frame 11
 Holds (summed m received sums) = (i : ℕ) → i < length sums → sumOf m (2 * i + 1) (bitsAt (nOf m) received) ≡ getD sums i 0
 
 -- the tests
@@ -194,6 +217,14 @@ partTests book i start =
     ∷ eqb (frameStart book (countOf book) (i + 1)) (start + 32)
     ∷ []
 
+unfoldable stuckTests : ℕ → List ℕ → List Bool
+stuckTests bit frame =
+    leb bit 1
+    ∷ eqb (length frame) 32
+    ∷ eqb (sentBit frame 255) 0
+    ∷ leb (distance (wordOf frame) (replicate 255 bit)) 23
+    ∷ []
+
 -- the checks come to the refusal with this number
 unfoldable refuses : Outcome → ℕ → Bool
 refuses Done number = false
@@ -207,6 +238,8 @@ test (told-edit m t word start stretch told) = tellsAs (codeVerdict m t (editChe
 test (told-splice m t start stretch told) = tellsAs (codeVerdict m t (spliceChecks (zerosOf m t) start stretch)) told
 test (part-at book i start) = all (partTests book i start)
 test (no-part book i number) = refuses (verdict (findChecks book i)) number
+test (no-frame frame number) = refuses (verdict (frameChecks frame)) number
+test (stuck-line bit frame) = all (stuckTests bit frame)
 test (summed m received sums) = hasSums m (bitsAt (nOf m) received) sums
 
 -- what the tests tell
@@ -345,15 +378,37 @@ part-holds book i start (also a (also b (also c done))) x p =
     let d = p .done (done-is _ a) in
     (d .is-done, d .did .starts ∙ eqb→eq _ _ b, d .did .ends ∙ eqb→eq _ _ c)
 
-none-holds : (book : List ℕ) (i number : ℕ) → T (refuses (verdict (findChecks book i)) number) → Holds (no-part book i number)
+-- checks that refuse with a number come to a refusal that has it
+refusal-with : (o : Outcome) (number : ℕ) → T (refuses o number) → (r : Refusal) × (o ≡ Refused r) × (numberOf r ≡ number)
 unfolding refuses
-none-holds book i number t x p = pick (verdict (findChecks book i)) refl t
+refusal-with Done number t = absurd t
+refusal-with (Refused r) number t = (r, refl, eqb→eq (numberOf r) number t)
+
+none-holds : (book : List ℕ) (i number : ℕ) → T (refuses (verdict (findChecks book i)) number) → Holds (no-part book i number)
+none-holds book i number t x p =
+    let (r, e, n) = refusal-with (verdict (findChecks book i)) number t in
+    let (o, s) = p .refused r e in
+    (ap outcomeNumber o ∙ n, ap (λ (s : Span). s .from) s, ap (λ (s : Span). s .to) s)
+
+no-frame-holds : (frame : List ℕ) (number : ℕ) → T (refuses (verdict (frameChecks frame)) number) → Unread frame number
+no-frame-holds frame number t x p =
+    let (r, e, n) = refusal-with (verdict (frameChecks frame)) number t in
+    let (o, s) = p .refused r e in
+    (ap outcomeNumber o ∙ n, s)
+
+stuck-holds : (bit : ℕ) (frame : List ℕ) → All (stuckTests bit frame) → Unread frame 11
+unfolding stuckTests
+stuck-holds bit frame (also a (also b (also c (also d done)))) x p =
+    let refused : x .outcome ≡ Refused LeadBits = rw (eqb→eq (sentBit frame 255) 0 c) at (stuck-refused frame (either bit (leb→le bit 1 a) d) p) in
+    (ap outcomeNumber refused, read-stays frame p (λ e. absurd (not-done (sym refused ∙ e))))
   where
-    pick : (o : Outcome) → verdict (findChecks book i) ≡ o → T (refuses o number) → (outcomeNumber (x .outcome) ≡ number) × (x .from ≡ 0) × (x .to ≡ 0)
-    pick Done e t = absurd t
-    pick (Refused r) e t =
-        let (o, s) = p .refused r e in
-        (ap outcomeNumber o ∙ eqb→eq (numberOf r) number t, ap (λ (s : Span). s .from) s, ap (λ (s : Span). s .to) s)
+    stuck : (v : ℕ) → T (leb (distance (wordOf frame) (replicate 255 v)) 23) → StuckAt v frame
+    stuck v t = record { long = eqb→eq (length frame) 32 b; changed = leb→le (distance (wordOf frame) (replicate 255 v)) 23 t }
+
+    either : (v : ℕ) → v ≤ 1 → T (leb (distance (wordOf frame) (replicate 255 v)) 23) → StuckAt 0 frame ⊎ StuckAt 1 frame
+    either zero l t = inl (stuck 0 t)
+    either (suc zero) l t = inr (stuck 1 t)
+    either (suc (suc v)) l t = absurd (omega arith)
 
 holds : (c : Case) → T (test c) → Holds c
 unfolding test
@@ -364,6 +419,8 @@ holds (told-edit m t word start stretch told) b = λ left x p. ap outcomeTold (a
 holds (told-splice m t start stretch told) b = λ x p. ap outcomeTold (answer-is (p .promise)) ∙ tells-is _ told b
 holds (part-at book i start) b = part-holds book i start (all-passed (partTests book i start) b)
 holds (no-part book i number) b = none-holds book i number b
+holds (no-frame frame number) b = no-frame-holds frame number b
+holds (stuck-line bit frame) b = stuck-holds bit frame (all-passed (stuckTests bit frame) b)
 holds (summed m received sums) b = summed-holds m received sums b
 
 -- the table
@@ -373,8 +430,8 @@ tests [] = true
 tests (c ∷ cs) = both (test c) (tests cs)
 
 tested : T (tests cases)
-unfolding tests cases test sentTests mendedTests farTests partTests refuses checksPass isDone tellsAs isCodeWord hasSums sameList bitsAt noSet zeroes
-    plusPlace hasMark numberAt lacksTrailer sizeIsWrong listOf isListed
+unfolding tests cases test sentTests mendedTests farTests partTests stuckTests refuses checksPass isDone tellsAs isCodeWord hasSums sameList bitsAt noSet zeroes
+    plusPlace hasMark numberAt lacksTrailer sizeIsWrong sentBit placeBit wordOf distance listOf isListed
     rowOf rowFrom kOf first firsts ks ts listedCodes firstAbove flip flipped differences differencesFrom sumOf sumFrom power _⊗⟨_⟩_ remainder
     carryless horner digits shifted polynomial polynomials _⊕_ someAtLeast
 tested = tt

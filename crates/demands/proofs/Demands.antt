@@ -1,7 +1,7 @@
 -- The three demands, as theorems over the promises, each under its sentence. Their words are in specs/Words.
 use mathlib.Core.Path.{_≡_, _∙_, ap, ap₂}
 use mathlib.Core.List.{List, [], _++_}
-use mathlib.Core.Logic.{_≢_, _↔_}
+use mathlib.Core.Logic.{_≢_, _↔_, _⊎_}
 use Prim.Native.Nat.{ℕ, _+_, _/_, _%_, _≤_}
 use lib.ListN.{length, getD, replicate}
 use Rattle.sheet.specs.declared.Refusal.{Refusal}
@@ -13,6 +13,7 @@ use Rattle.sheet.specs.Verdict.{verdict}
 use Rattle.sheet.proofs.NumberLaws.{number-tells, outcome-tells}
 use Rattle.sheet.proofs.VerdictLaws.{answer-is, refused-stays, always-stays}
 use Rattle.bits.specs.Bits.{AreBits}
+use Rattle.bits.specs.Differences.{distance}
 use Rattle.field.specs.Product.{IsField}
 use Rattle.field.specs.Power.{nOf}
 use Rattle.codes.specs.Rule.{Rule}
@@ -33,19 +34,23 @@ use Rattle.kept.specs.declared.Answer.{Answer}
 use Rattle.kept.specs.Open.{Opens}
 use Rattle.splice.specs.Splice.{Splices}
 use Rattle.decode_kept.specs.DecodeKept.{DecodesKept, NoSet, decodeKeptChecks}
-use Rattle.layout.specs.Frame.{wordOf}
+use Rattle.layout.specs.declared.message.Reading.{Reading}
+use Rattle.layout.specs.Frame.{sentBit, wordOf, Lawful}
 use Rattle.frame.specs.declared.reading.ReadFrame.{ReadFrame}
+use Rattle.frame.specs.Make.{Makes}
 use Rattle.frame.specs.Read.{Reads, frameChecks}
 use Rattle.book.specs.declared.reading.Looked.{Looked}
 use Rattle.book.specs.declared.reading.Found.{Found}
 use Rattle.book.specs.Book.{IsBook, AreBytes}
 use Rattle.book.specs.Read.{Looks, Finds}
 use Rattle.book.specs.Write.{WritesBook}
-use Rattle.lister.specs.Listing.{Lines, Lists, Steps, framesOf, ListsBook}
+use Rattle.line.specs.Line.{refusedLine}
+use Rattle.lister.specs.Listing.{LineOf, Lines, Lists, Steps, framesOf, ListsBook}
 use Rattle.maker.specs.Making.{allLines, GiveAll}
 use Rattle.demands.specs.Words.{OneOutcome, NeverStruck, TellsWhich, NeverBadBit, OneCondition, RefusedStays, NeverLookedAt}
 use Rattle.demands.specs.Words.{Numbered, GaloisField, Divides, LeastCommonMultiple, Received, PassesAgain}
-use Rattle.demands.specs.Words.{After, resulting, Elsewhere, editedMessage, OnlyStretch, CarriedHome, joined, EndsShort, MakingRun}
+use Rattle.demands.specs.Words.{After, resulting, Elsewhere, editedMessage, OnlyStretch}
+use Rattle.demands.specs.Words.{readAs, StuckAt, padOrLead, CarriedHome, joined, EndsShort, MakingRun}
 use Rattle.demands.proofs.TheCode.{checks-by-rule, k-by-rule, codes-in-number, sizes-by-rule, sizes-n, sizes-as-described, the-field, all-ones}
 use Rattle.demands.proofs.TheCode.{generator-is-lcm, lcm-is-generator, code-by-generator}
 use Rattle.demands.proofs.OneOutcome.{sizes-one, describe-one, encode-one, encode-sends}
@@ -53,13 +58,14 @@ use Rattle.demands.proofs.Near.{decode-one, decode-received}
 use Rattle.demands.proofs.EditOutcome.{edit-one, edit-encodes, edit-as-encoded, edit-only}
 use Rattle.demands.proofs.KeptOutcome.{open-one, splice-one, decode-kept-one, splice-refused, splice-only}
 use Rattle.demands.proofs.Demand3.{kept-as-opened, kept-as-decoded, whole-splice}
-use Rattle.demands.proofs.FrameOutcome.{make-one, read-one}
+use Rattle.demands.proofs.FrameOutcome.{make-one, read-one, changed-reads-back}
 use Rattle.demands.proofs.BookOutcome.{look-one, find-one, read-book-one, write-book-one, list-book-one, book-exactly, book-carried}
 use Rattle.demands.proofs.BookOutcome.{home-listed, find-behind}
 use Rattle.demands.proofs.ListingOutcome.{listing-one, lists-one, lines-so-far, pieces-listed, short-frame}
 use Rattle.demands.proofs.TypedOutcome.{typed-one}
 use Rattle.demands.proofs.MakingOutcome.{give-all-one, run-gives}
 use Rattle.demands.proofs.Exactly.{decode-refused, decode-nothing, decode-kept-refused, decode-kept-nothing, read-refused, read-nothing}
+use Rattle.demands.proofs.StuckLine.{stuck-refused, stuck-listed}
 use Rattle.demands.proofs.Struck.{never-answered, mended-again}
 use Rattle.demands.proofs.BadBit.{tells-which, never-bad-bit}
 use Rattle.demands.proofs.Stays.{sizes-stays, describe-stays, decode-stays, decode-kept-stays, read-stays}
@@ -279,6 +285,20 @@ demand-3-encoded C p e q f = edit-as-encoded C p e q f
 pub demand-3-only : {m t start : ℕ} {lent stretch left : List ℕ} {x : Outcome} → Edits m t lent start stretch x left
     → OnlyStretch m t lent start (start + length stretch) left
 demand-3-only p = edit-only p
+
+-- docs/SCOPE.md 6.2: "What is made reads back as it was made, also with up to 23 changed bits." The changed ones are counted.
+pub frame-home : {reading : Reading} {lent made : List ℕ} (received : List ℕ) {e : ℕ} {x : ReadFrame} → Lawful reading → Makes reading lent Done made
+    → length received ≡ 32 → sentBit received 255 ≡ 0 → distance (wordOf made) (wordOf received) ≡ e → e ≤ 23 → Reads received x → x ≡ readAs reading e
+frame-home received L p l pad d few r = changed-reads-back received L p l pad d few r
+
+-- docs/SCOPE.md 6.2: "A line stuck at zero or at one, with up to 23 changed bits, is refused: by 10 if its pad is 1, else by 11."
+pub frame-stuck : (frame : List ℕ) {x : ReadFrame} → StuckAt 0 frame ⊎ StuckAt 1 frame → Reads frame x → x .outcome ≡ Refused (padOrLead frame)
+frame-stuck frame s p = stuck-refused frame s p
+
+-- The listing says so of it.
+pub frame-stuck-line : (frame : List ℕ) {number : ℕ} {line : List ℕ} → StuckAt 0 frame ⊎ StuckAt 1 frame → LineOf number frame line
+    → line ≡ refusedLine number (padOrLead frame)
+frame-stuck-line frame s p = stuck-listed frame s p
 
 -- docs/SCOPE.md 6.3: "The trailer is always the last 16 bytes, and other bytes may stand before the first frame." Looking at bytes is done and gives a count
 -- exactly if they are a book of so many frames.

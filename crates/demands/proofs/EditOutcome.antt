@@ -8,13 +8,13 @@ use native.Mathlib.Decide.{decLt}
 use native.Mathlib.Omega.{arith}
 use borrow.Author.Tests.{le-ltb, ltb-false}
 use lib.Bits.{bitXor}
-use lib.ListN.{length, getD, drop, replicate, length-drop, length-replicate, List·getD-eq-default}
+use lib.ListN.{length, getD, drop, replicate, length-drop, List·getD-eq-default}
 use lib.Seq.{paste, getD-drop}
 use Rattle.sheet.specs.declared.Outcome.{Outcome}
 use Rattle.sheet.specs.declared.Outcome.the-variants.{Done}
 use Rattle.sheet.proofs.VerdictLaws.{Verdict, passed, refused, verdict-cases, always-one, done-passed}
 use Rattle.bits.specs.Bits.{runsPast, added}
-use Rattle.bits.proofs.BitLaws.{added-at, added-back, added-self, bits-added, bits-replicate, length-added}
+use Rattle.bits.proofs.BitLaws.{added-at, added-back, added-self, bits-added, length-added}
 use Rattle.bits.proofs.Turns.{paste-at, paste-before, paste-after}
 use Rattle.field.specs.Sum.{_⊕_}
 use Rattle.field.specs.Power.{nOf}
@@ -26,12 +26,13 @@ use Rattle.codes.specs.Sums.{CodeWord}
 use Rattle.codes.specs.Encoding.{Encoding}
 use Rattle.codes.proofs.LookLaws.{known-listed}
 use Rattle.codes.proofs.CheckLaws.{past, code-one}
-use Rattle.codes.proofs.SumLaws.{sum-added, sum-zeros}
+use Rattle.codes.proofs.SumLaws.{sum-added}
 use Rattle.codec.specs.Encode.{Encodes}
 use Rattle.codec.specs.Edit.{Edits, Editing, editChecks}
 use Rattle.codec.specs.Work.{EditReady}
 use Rattle.codec.proofs.EditLaws.{edit-ready}
 use Rattle.demands.specs.Words.{editedMessage, OnlyStretch}
+use Rattle.demands.proofs.TheCode.{all-zeros}
 use Rattle.demands.proofs.OneOutcome.{encoding-one}
 
 -- an empty stretch passes check 12 exactly if its start is at most the end
@@ -131,12 +132,7 @@ editing-none {c} {lent = lent} R =
     }
   where
     zeros : CodeWord (c .m) (c .t) (replicate (length lent) 0)
-    zeros =
-        record {
-          long = length-replicate {A = ℕ} (length lent) 0 ∙ R .long ∙ R .known .is-n;
-          bits = bits-replicate (length lent);
-          sums = λ j a b. sum-zeros (c .m) j (length lent);
-        }
+    zeros = rw (R .long ∙ R .known .is-n) (all-zeros (c .m) (c .t))
 
 -- what the checks of an accepted edit leave
 accepted : (m t : ℕ) (lent : List ℕ) (start : ℕ) (stretch : List ℕ) → codeVerdict m t (editChecks lent start stretch) ≡ Done

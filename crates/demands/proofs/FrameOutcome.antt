@@ -14,12 +14,12 @@ use Rattle.bits.specs.Differences.{distance}
 use Rattle.bits.proofs.DistanceLaws.{distance-comm, distance-self}
 use Rattle.codes.specs.Sums.{CodeWord}
 use Rattle.layout.specs.declared.message.Reading.{Reading}
-use Rattle.layout.specs.Frame.{sentBit, wordOf, Lawful, messageBit, leadIsWrong, Carries}
+use Rattle.layout.specs.Frame.{sentBit, wordOf, Lawful, lead, messageBit, leadIsWrong, Carries}
 use Rattle.layout.proofs.DigitLaws.{same-digits}
 use Rattle.layout.proofs.SentLaws.{sent-shifted}
 use Rattle.layout.proofs.PackLaws.{word-long, word-bits, word-at}
 use Rattle.layout.proofs.MessageLaws.{message-counter, message-poll, message-house, message-lead, message-at}
-use Rattle.layout.proofs.FieldLaws.{lead-none}
+use Rattle.layout.proofs.FieldLaws.{lead-right}
 use Rattle.layout.proofs.ReadingLaws.{reading-tells}
 use Rattle.frame.specs.declared.reading.ReadFrame.{ReadFrame}
 use Rattle.frame.specs.Make.{Made, Makes}
@@ -27,6 +27,7 @@ use Rattle.frame.specs.Read.{Given, givenBy, ReadsWord, ReadsReceived, near, fa
 use Rattle.frame.proofs.CodeLaws.{listed}
 use Rattle.frame.proofs.ReadLaws.{frame-passes}
 use Rattle.line.specs.Line.{Writes}
+use Rattle.demands.specs.Words.{readAs}
 use Rattle.demands.proofs.OneOutcome.{encoding-one}
 use Rattle.demands.proofs.Near.{near-one}
 
@@ -139,15 +140,17 @@ made-carries : {reading : Reading} {frame : List ℕ} → Lawful reading → Mad
 made-carries {reading} L m = record { lawful = L; message = λ i h. m .encodes .carries i h ∙ message-at reading i h }
 
 made-lead : {reading : Reading} (frame : List ℕ) → Made reading frame → leadIsWrong (wordOf frame) ≡ false
-made-lead {reading} frame m =
-    lead-none (wordOf frame) (omega (arith, at 96 (omega arith) (omega arith), at 97 (omega arith) (omega arith), at 98 (omega arith) (omega arith)))
+made-lead {reading} frame m = lead-right (wordOf frame) (record { at = sent })
   where
-    at : (i : ℕ) → 96 ≤ i → i < 99 → getD (wordOf frame) (156 + i) 0 ≡ 0
-    at i h l = m .encodes .carries i l ∙ message-at reading i l ∙ message-lead reading h
-
--- the answer that read this with so many wrong places
-abbrev pub readAs : Reading → ℕ → ReadFrame
-readAs reading wrong = record { outcome = Done; reading = reading; wrong = wrong }
+    sent : (q : ℕ) → q < 3 → getD (wordOf frame) (254 - q) 0 ≡ getD lead q 0
+    sent q h =
+        let e : 156 + (98 - q) ≡ 254 - q = omega arith in
+        let f : 98 - (98 - q) ≡ q = omega arith in
+        ap (λ (x : ℕ). getD (wordOf frame) x 0) (sym e)
+        ∙ m .encodes .carries (98 - q) (omega arith)
+        ∙ message-at reading (98 - q) (omega arith)
+        ∙ message-lead reading (omega arith)
+        ∙ ap (λ (x : ℕ). getD lead x 0) f
 
 -- a frame whose word differs from that of a made one in at most 23 places, with the pad left alone, reads back as it was made, and the differences are
 -- counted

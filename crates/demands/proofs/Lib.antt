@@ -15,6 +15,7 @@ pub mod NoSet
 pub mod Cases
 pub mod CardOutcome
 pub mod Exactly
+pub mod StuckLine
 pub mod Struck
 pub mod BadBit
 pub mod Stays

@@ -11,7 +11,7 @@ use Rattle.sheet.specs.declared.Outcome.the-variants.{Done}
 use Rattle.sheet.specs.Verdict.{verdict}
 use Rattle.sheet.proofs.VerdictLaws.{all-pass, none-refuses, answer-is, done-passed}
 use Rattle.bits.specs.Bits.{AreBits}
-use Rattle.bits.proofs.BitLaws.{bits-ones}
+use Rattle.bits.proofs.BitLaws.{bits-ones, bits-replicate}
 use Rattle.field.specs.Product.{IsField}
 use Rattle.field.specs.Power.{nOf}
 use Rattle.field.proofs.SumLaws as SumLaws
@@ -29,7 +29,7 @@ use Rattle.codes.proofs.LookLaws.{rows-within, found-listed, found-known, liste
 use Rattle.codes.proofs.AllRows.{row-of, row-one}
 use Rattle.codes.proofs.CheckLaws.{m-within, within-m, listed-t, past, code-passes}
 use Rattle.codes.proofs.Rows.{row-facts}
-use Rattle.codes.proofs.SumLaws.{odd-sums}
+use Rattle.codes.proofs.SumLaws.{odd-sums, sum-zeros}
 use Rattle.codes.proofs.Ones.{sum-ones}
 use Rattle.codes.proofs.Unique.{Roots}
 use Rattle.generator.specs.Generator.{Generator}
@@ -211,6 +211,10 @@ code-by-generator {m} {t} {lent} p e =
     let z = done-passed (p .promise) e in
     let K = past m t (describeChecks lent (codeOf m t)) z .known in
     multiples (K .of-m .listed) (roots (known-listed K) .1) (p .promise .done z .did .is-generator)
+
+-- the word of zeros is in every code
+pub all-zeros : (m t : ℕ) → CodeWord m t (replicate (nOf m) 0)
+all-zeros m t = record { long = length-replicate {A = ℕ} (nOf m) 0; bits = bits-replicate (nOf m); sums = λ j l u. sum-zeros m j (nOf m) }
 
 -- the word of all ones is in every listed code
 pub all-ones : {m t : ℕ} → verdict (codeChecks m t []) ≡ Done → CodeWord m t (replicate (nOf m) 1)

@@ -12,7 +12,8 @@ use Rattle.typed.specs.declared.Typed.{Typed}
 use Rattle.typed.specs.declared.Typed.the-variants.{Said, Nothing}
 use Rattle.typed.specs.Says.{Says, Answers}
 use Rattle.typed.proofs.LineLaws.{says-one}
-use Rattle.demands.proofs.FrameOutcome.{readAs, made-reads-back}
+use Rattle.demands.specs.Words.{readAs}
+use Rattle.demands.proofs.FrameOutcome.{made-reads-back}
 
 pub typed-one : (line : List ℕ) (x y : Typed) → Answers line x → Answers line y → x ≡ y
 typed-one line (Said a) (Said b) p q = ap Said (says-one a b p q)

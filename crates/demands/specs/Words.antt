@@ -5,10 +5,11 @@ use mathlib.Core.List.{List, [], _∷_, _++_}
 use mathlib.Core.Logic.{_≢_, _↔_, _⊎_}
 use Prim.Native.Nat.{ℕ, _+_, _-_, _*_, _/_, _^_, _≤_, _<_}
 use denote.Ref.{RefT, now, ptr}
+use lib.Dec.{eqb}
 use lib.ListN.{length, getD, take, drop, replicate}
 use lib.Seq.{paste}
 use Rattle.sheet.specs.declared.Refusal.{Refusal}
-use Rattle.sheet.specs.declared.Refusal.the-variants.{NothingNear, FrameLength, NoSuchFrame}
+use Rattle.sheet.specs.declared.Refusal.the-variants.{NothingNear, FrameLength, PadBit, LeadBits, NoSuchFrame}
 use Rattle.sheet.specs.declared.Outcome.{Outcome}
 use Rattle.sheet.specs.declared.Outcome.the-variants.{Done, Refused}
 use Rattle.sheet.specs.declared.Told.{Told}
@@ -37,7 +38,7 @@ use Rattle.kept.specs.Open.{Opens, openChecks}
 use Rattle.splice.specs.Splice.{Splices, spliceChecks}
 use Rattle.decode_kept.specs.DecodeKept.{DecodesKept, NoSet, decodeKeptChecks}
 use Rattle.layout.specs.declared.message.Reading.{Reading}
-use Rattle.layout.specs.Frame.{wordOf}
+use Rattle.layout.specs.Frame.{sentBit, wordOf}
 use Rattle.frame.specs.declared.reading.ReadFrame.{ReadFrame}
 use Rattle.frame.specs.Make.{Makes, makeChecks}
 use Rattle.frame.specs.Read.{Reads, frameChecks, leadChecks, givenBy, zeros}
@@ -315,6 +316,21 @@ editedMessage m t word start stretch = paste (drop (nOf m - kOf m t) word) start
 pub record OnlyStretch (m t : ℕ) (word : List ℕ) (start end : ℕ) (after : List ℕ) : Type 0 where
   pub long : length after ≡ length word
   pub places : (p : ℕ) → nOf m - kOf m t ≤ p → (p < nOf m - kOf m t + start) ⊎ (nOf m - kOf m t + end ≤ p) → getD after p 0 ≡ getD word p 0
+
+-- the reading frame
+
+-- the answer that gives this reading, with so many wrong places
+abbrev pub readAs : Reading → ℕ → ReadFrame
+readAs reading wrong = record { outcome = Done; reading = reading; wrong = wrong }
+
+-- A line stuck at a bit, 0 or 1, with up to 23 changed bits: 32 bytes whose word, their 255 sent bits, differs from 255 times that bit in at most 23 places.
+pub record StuckAt (bit : ℕ) (frame : List ℕ) : Type 0 where
+  pub long : length frame ≡ 32
+  pub changed : distance (wordOf frame) (replicate 255 bit) ≤ 23
+
+-- 10 if the pad is 1, else 11
+abbrev pub padOrLead : List ℕ → Refusal
+padOrLead frame = cond (eqb (sentBit frame 255) 1) PadBit LeadBits
 
 -- the poll book
 

@@ -27,7 +27,7 @@ listed =
       is-t = refl;
     }
 
-known : Known (codeOf 8 23)
+pub known : Known (codeOf 8 23)
 known = found-known (listed .of-m .listed) (listed-found listed)
 
 pub is-99 : kOf 8 23 ≡ 99

@@ -74,8 +74,8 @@ fn read_word(word: &[u8], wrong: usize) -> ReadFrame
     requires { ⌜ AreBits (now word) × (length (now word) ≡ 255) ⌝ }
     ensures { λ r. ⌜ ReadsWord (now (word .entry)) wrong (r .outcome) (givenBy r) ⌝ }
 {
-    let lead = layout::gather(word, Sent { number: 0 }, 3);
-    if lead != 0 {
+    let lead_is_wrong = layout::lead_is_wrong(word);
+    if lead_is_wrong {
         return refused(Refusal::LeadBits);
     }
     let reading = layout::reading_of(word);

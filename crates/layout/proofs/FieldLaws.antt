@@ -1,15 +1,15 @@
 -- The lead of a word, and the fields of one whose lead is right.
-use mathlib.Core.Path.{_≡_, _∙_, sym, ap}
-use mathlib.Core.Bool.{true, false, true≢false}
+use mathlib.Core.Path.{_≡_, _∙_, sym, ap, ap₂}
+use mathlib.Core.Bool.{Bool, true, false, not, _||_, true≢false, or-true}
 use mathlib.Core.List.{List}
-use Prim.Native.Nat.{ℕ, _+_, _-_, _/_, _%_, _^_, _≤_, _<_}
+use mathlib.Core.Logic.{_≢_}
+use Prim.Native.Nat.{ℕ, zero, suc, _+_, _-_, _/_, _%_, _^_, _≤_, _<_}
 use native.Mathlib.Decide.{ℕ-discrete, decLt}
-use native.Mathlib.Nat.{div-div-eq-div-mul}
 use native.Mathlib.Omega.{arith}
 use borrow.Author.Tests.{eq-eqb, ne-eqb}
-use lib.ListN.{getD}
+use lib.ListN.{getD, replicate, getD-replicate}
 use Rattle.layout.specs.declared.message.Reading.{Reading}
-use Rattle.layout.specs.Frame.{messageBit, leadIsWrong, Carries}
+use Rattle.layout.specs.Frame.{lead, messageBit, otherLead, leadIsWrong, Carries}
 use Rattle.layout.specs.Work.{Gathered}
 use Rattle.layout.proofs.SentLaws.{air-place}
 use Rattle.layout.proofs.MessageLaws.{message-counter, message-poll, message-house, message-lead}
@@ -21,46 +21,65 @@ field-at {word} {from} {n} {v} g fits e h =
     let q : n - 1 - (n - 1 - e) ≡ e = omega arith in
     sym (ap (λ (x : ℕ). v / 2 ^ x % 2) (sym q) ∙ g .digits .at (n - 1 - e) (omega arith) ∙ air-place word (omega arith) ∙ ap (λ (x : ℕ). getD word x 0) p)
 
-no-digit : (x : ℕ) → x < 8 → x % 2 + x / 2 % 2 + x / 4 % 2 ≡ 0 → x ≡ 0
-no-digit x h e =
-    let d : x / 2 / 2 ≡ x / 4 = div-div-eq-div-mul x 2 2 in
-    let top : x / 4 ≡ 0 = even (x / 4) (omega arith) (omega arith) in
-    let rest : x / 2 ≡ 0 = even (x / 2) (omega arith) (omega arith) in
-    even x (omega arith) (omega arith)
+-- the first n bits of the lead are sent, each under its number
+pub record SendsLead (word : List ℕ) (n : ℕ) : Type 0 where
+  pub at : (q : ℕ) → q < n → getD word (254 - q) 0 ≡ getD lead q 0
+
+pub sends-next : {word : List ℕ} {n : ℕ} → SendsLead word n → getD word (254 - n) 0 ≡ getD lead n 0 → SendsLead word (n + 1)
+sends-next {word} {n} sent next = record { at = λ q h. pick q h (decLt q n) }
   where
-    even : (y : ℕ) → y % 2 ≡ 0 → y < 2 → y ≡ 0
-    even y z l = omega arith
+    pick : (q : ℕ) → q < n + 1 → Dec (q < n) → getD word (254 - q) 0 ≡ getD lead q 0
+    pick q h (yes l) = sent .at q l
+    pick q h (no l) =
+        let e : q ≡ n = omega arith in
+        rw e next
 
--- the lead is right exactly if its three places, or the number that they send, are 0
+-- the lead is right exactly if all three bits are sent so
 
-pub lead-none : (word : List ℕ) → getD word 252 0 + getD word 253 0 + getD word 254 0 ≡ 0 → leadIsWrong word ≡ false
+pub lead-wrong : (word : List ℕ) (q : ℕ) → q < 3 → getD word (254 - q) 0 ≢ getD lead q 0 → leadIsWrong word ≡ true
 unfolding leadIsWrong
-lead-none word z = rw (eq-eqb (getD word 252 0 + getD word 253 0 + getD word 254 0) 0 z)
-
-lead-some : (word : List ℕ) → (getD word 252 0 + getD word 253 0 + getD word 254 0 ≡ 0 → ⊥) → leadIsWrong word ≡ true
-unfolding leadIsWrong
-lead-some word n = rw (ne-eqb (getD word 252 0 + getD word 253 0 + getD word 254 0) 0 n)
-
-lead-zero : (word : List ℕ) → leadIsWrong word ≡ false → getD word 252 0 + getD word 253 0 + getD word 254 0 ≡ 0
-lead-zero word z = pick (ℕ-discrete (getD word 252 0 + getD word 253 0 + getD word 254 0) 0)
+lead-wrong word q h n = at q h (ap not (ne-eqb (getD word (254 - q) 0) (getD lead q 0) n))
   where
-    pick : Dec (getD word 252 0 + getD word 253 0 + getD word 254 0 ≡ 0) → getD word 252 0 + getD word 253 0 + getD word 254 0 ≡ 0
-    pick (yes e) = e
-    pick (no n) = absurd (true≢false (sym (lead-some word n) ∙ z))
+    a : Bool
+    a = otherLead word 0
 
-module _ {word : List ℕ} {lead : ℕ} (g : Gathered word 0 3 lead) where
-  lead-places : getD word 252 0 + getD word 253 0 + getD word 254 0 ≡ lead % 2 + lead / 2 % 2 + lead / 4 % 2
-  lead-places =
-      let a = field-at g (omega arith) 0 (omega arith) in
-      let b = field-at g (omega arith) 1 (omega arith) in
-      let d = field-at g (omega arith) 2 (omega arith) in
-      omega arith
+    b : Bool
+    b = otherLead word 1
 
-  pub lead-right : lead ≡ 0 → leadIsWrong word ≡ false
-  lead-right z = lead-none word (omega (arith, lead-places))
+    d : Bool
+    d = otherLead word 2
 
-  pub lead-wrong : (lead ≡ 0 → ⊥) → leadIsWrong word ≡ true
-  lead-wrong n = lead-some word (λ e. n (no-digit lead (g .digits .below) (sym lead-places ∙ e)))
+    at : (i : ℕ) → i < 3 → otherLead word i ≡ true → (a || b || d) ≡ true
+    at zero l e = ap (λ (x : Bool). x || b || d) e
+    at (suc zero) l e = ap (λ (x : Bool). a || x || d) e ∙ ap (λ (x : Bool). x || d) (or-true a)
+    at (suc (suc zero)) l e = ap (λ (x : Bool). a || b || x) e ∙ or-true (a || b)
+    at (suc (suc (suc i))) l e = absurd (omega arith)
+
+pub lead-right : (word : List ℕ) → SendsLead word 3 → leadIsWrong word ≡ false
+unfolding leadIsWrong
+lead-right word sent = ap₂ _||_ (ap₂ _||_ (same 0 (omega arith)) (same 1 (omega arith))) (same 2 (omega arith))
+  where
+    same : (q : ℕ) → q < 3 → otherLead word q ≡ false
+    same q h = ap not (eq-eqb (getD word (254 - q) 0) (getD lead q 0) (sent .at q h))
+
+lead-sent : (word : List ℕ) → leadIsWrong word ≡ false → SendsLead word 3
+lead-sent word z = record { at = λ q h. pick q h (ℕ-discrete (getD word (254 - q) 0) (getD lead q 0)) }
+  where
+    pick : (q : ℕ) → q < 3 → Dec (getD word (254 - q) 0 ≡ getD lead q 0) → getD word (254 - q) 0 ≡ getD lead q 0
+    pick q h (yes e) = e
+    pick q h (no n) = absurd (true≢false (sym (lead-wrong word q h n) ∙ z))
+
+-- the lead has a 1 and a 0, so a word that is the same bit all over does not send it
+pub same-bit-wrong : (bit : ℕ) → leadIsWrong (replicate 255 bit) ≡ true
+unfolding lead
+same-bit-wrong bit = pick (ℕ-discrete bit 1)
+  where
+    at : (q : ℕ) → q < 3 → getD (replicate 255 bit) (254 - q) 0 ≡ bit
+    at q h = getD-replicate 255 (254 - q) bit 0 (omega arith)
+
+    pick : Dec (bit ≡ 1) → leadIsWrong (replicate 255 bit) ≡ true
+    pick (yes e) = lead-wrong (replicate 255 bit) 1 (omega arith) (λ z. absurd (omega (arith, at 1 (omega arith))))
+    pick (no n) = lead-wrong (replicate 255 bit) 0 (omega arith) (λ z. n (sym (at 0 (omega arith)) ∙ z))
 
 -- the three fields of a word whose lead is right
 module _ {word : List ℕ} {house poll counter : ℕ} (z : leadIsWrong word ≡ false) (h : Gathered word 3 16 house)
@@ -68,15 +87,10 @@ module _ {word : List ℕ} {house poll counter : ℕ} (z : leadIsWrong word ≡ 
   abbrev pub told : Reading
   told = record { house = house; poll = poll; counter = counter }
 
-  lead-at : (i : ℕ) → 96 ≤ i → i < 99 → getD word (156 + i) 0 ≡ 0
-  lead-at i l k = pick (ℕ-discrete i 96) (ℕ-discrete i 97)
-    where
-      pick : Dec (i ≡ 96) → Dec (i ≡ 97) → getD word (156 + i) 0 ≡ 0
-      pick (yes e) d = rw e (omega (arith, lead-zero word z))
-      pick (no n) (yes e) = rw e (omega (arith, lead-zero word z))
-      pick (no n) (no m) =
-          let e : i ≡ 98 = omega arith in
-          rw e (omega (arith, lead-zero word z))
+  lead-at : (i : ℕ) → 96 ≤ i → i < 99 → getD word (156 + i) 0 ≡ getD lead (98 - i) 0
+  lead-at i l k =
+      let e : 254 - (98 - i) ≡ 156 + i = omega arith in
+      ap (λ (x : ℕ). getD word x 0) (sym e) ∙ lead-sent word z .at (98 - i) (omega arith)
 
   pub carried : Carries told word
   carried =

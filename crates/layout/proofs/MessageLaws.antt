@@ -1,14 +1,21 @@
 -- The message of a reading, field by field.
 use mathlib.Core.Path.{_≡_}
-use Prim.Native.Nat.{ℕ, _-_, _/_, _%_, _^_, _≤_, _<_}
+use Prim.Native.Nat.{ℕ, zero, suc, _-_, _/_, _%_, _^_, _≤_, _<_}
 use native.Mathlib.Decide.{decLt}
 use native.Mathlib.Omega.{arith}
 use borrow.Author.Tests.{lt-ltb, le-ltb}
 use lib.ListN.{length, getD}
 use Rattle.bits.specs.Bits.{AreBits}
-use Rattle.layout.specs.Frame.{messageBit, messageOf}
+use Rattle.layout.specs.Frame.{lead, messageBit, messageOf}
 use Rattle.layout.specs.declared.message.Reading.{Reading}
 use Rattle.bits.proofs.Lists.{bits-list, length-list, list-at}
+
+lead-small : (q : ℕ) → getD lead q 0 ≤ 1
+unfolding lead
+lead-small zero = omega arith
+lead-small (suc zero) = omega arith
+lead-small (suc (suc zero)) = omega arith
+lead-small (suc (suc (suc q))) = omega arith
 
 module _ (reading : Reading) where
   pub message-counter : {i : ℕ} → i < 64 → messageBit reading i ≡ reading .counter / 2 ^ i % 2
@@ -25,7 +32,7 @@ module _ (reading : Reading) where
       let k : 64 ≤ i = omega arith in
       rw (le-ltb i 64 k, le-ltb i 80 h, lt-ltb i 96 l)
 
-  pub message-lead : {i : ℕ} → 96 ≤ i → messageBit reading i ≡ 0
+  pub message-lead : {i : ℕ} → 96 ≤ i → messageBit reading i ≡ getD lead (98 - i) 0
   unfolding messageBit
   message-lead {i} h =
       let k : 64 ≤ i = omega arith in
@@ -39,7 +46,7 @@ module _ (reading : Reading) where
       pick (yes h) b d = rw (message-counter h) (omega arith)
       pick (no a) (yes h) d = rw (message-poll {i = i} (omega arith) h) (omega arith)
       pick (no a) (no b) (yes h) = rw (message-house {i = i} (omega arith) h) (omega arith)
-      pick (no a) (no b) (no d) = rw (message-lead {i = i} (omega arith)) (omega arith)
+      pick (no a) (no b) (no d) = rw (message-lead {i = i} (omega arith)) (lead-small (98 - i))
 
   pub message-bits : AreBits (messageOf reading)
   unfolding messageOf

@@ -1,10 +1,11 @@
-// A reading and its message: the fields into bits, and back.
+// A reading and its message: the lead and the fields into bits, and back.
 
 ghost use mathlib.Core.Path.{_≡_};
 ghost use mathlib.Core.Bool.{false};
+ghost use Prim.Native.Nat.{_<_};
 ghost use lib.ListN.{length, replicate};
 ghost use Rattle.bits.specs.Bits.{AreBits};
-ghost use Rattle.layout.specs.Frame.{messageBit, messageOf, leadIsWrong, Carries};
+ghost use Rattle.layout.specs.Frame.{lead, messageBit, messageOf, leadIsWrong, Carries};
 use crate::places;
 use crate::places::Sent;
 
@@ -33,6 +34,7 @@ pub fn fill_message(reading: Reading, message: &mut [u8])
 }
 
 fn message_bit(reading: Reading, i: usize) -> u8
+    requires { ⌜ i < 99 ⌝ }
     ensures { λ r. ⌜ r ≡ messageBit reading i ⌝ }
 {
     if i < 64 {
@@ -44,7 +46,33 @@ fn message_bit(reading: Reading, i: usize) -> u8
     if i < 96 {
         return ((reading.house >> (i - 80)) % 2) as u8;
     }
-    0
+    let bits = lead_bits();
+    bits[98 - i]
+}
+
+// The lead of every frame, first sent first.
+fn lead_bits() -> [u8; 3]
+    ensures { λ r. ⌜ r ≡ lead ⌝ }
+{
+    [1, 0, 1]
+}
+
+// Whether a word sends another lead.
+pub fn lead_is_wrong(word: &[u8]) -> bool
+    requires { ⌜ length (now word) ≡ 255 ⌝ }
+    ensures { λ r. ⌜ r ≡ leadIsWrong (now (word .entry)) ⌝ }
+{
+    let bits = lead_bits();
+    let mut number = 0;
+    while number < 3 {
+        let sent = places::air_bit(word, Sent { number });
+        let right = bits[number];
+        if sent != right {
+            return true;
+        }
+        number += 1;
+    }
+    false
 }
 
 // The fields of a word whose lead is right, each highest bit first.

@@ -53,7 +53,7 @@ pub fn sent_bit(frame: &[u8], sent: Sent) -> u8
 }
 
 // The bit that a word sends under this number, 0 for the pad.
-fn air_bit(word: &[u8], sent: Sent) -> u8
+pub(crate) fn air_bit(word: &[u8], sent: Sent) -> u8
     requires { ⌜ length (now word) ≡ 255 ⌝ }
     ensures { λ r. ⌜ r ≡ airBit (now (word .entry)) (sent .number) ⌝ }
 {
@@ -67,7 +67,7 @@ fn air_bit(word: &[u8], sent: Sent) -> u8
 }
 
 // The number whose `count` bits a word sends from this sent number on, highest first.
-pub fn gather(word: &[u8], from: Sent, count: usize) -> u64
+pub(crate) fn gather(word: &[u8], from: Sent, count: usize) -> u64
     requires { ⌜ AreBits (now word) × (length (now word) ≡ 255) × (from .number + count ≤ 256) × (count ≤ 64) ⌝ }
     ensures { λ r. ⌜ Gathered (now (word .entry)) (from .number) count r ⌝ }
 {
