@@ -3,7 +3,7 @@
 ghost use mathlib.Core.Path.{_≡_};
 ghost use mathlib.Core.Bool.{false};
 ghost use Prim.Native.Nat.{_<_};
-ghost use lib.ListN.{length, replicate};
+ghost use lib.ListN.{length, getD, replicate};
 ghost use Rattle.bits.specs.Bits.{AreBits};
 ghost use Rattle.layout.specs.Frame.{lead, messageBit, messageOf, leadIsWrong, Carries};
 use crate::places;
@@ -46,15 +46,18 @@ fn message_bit(reading: Reading, i: usize) -> u8
     if i < 96 {
         return ((reading.house >> (i - 80)) % 2) as u8;
     }
-    let bits = lead_bits();
-    bits[98 - i]
+    let number = 98 - i;
+    lead_bit(Sent { number })
 }
 
-// The lead of every frame, first sent first.
-fn lead_bits() -> [u8; 3]
-    ensures { λ r. ⌜ r ≡ lead ⌝ }
+// The bit of the lead that every frame sends under this number.
+fn lead_bit(sent: Sent) -> u8
+    requires { ⌜ sent .number < 3 ⌝ }
+    ensures { λ r. ⌜ r ≡ getD lead (sent .number) 0 ⌝ }
 {
-    [1, 0, 1]
+    let first_sent_first: [u8; 3] = [1, 0, 1];
+    let q = sent.number;
+    first_sent_first[q]
 }
 
 // Whether a word sends another lead.
@@ -62,11 +65,10 @@ pub fn lead_is_wrong(word: &[u8]) -> bool
     requires { ⌜ length (now word) ≡ 255 ⌝ }
     ensures { λ r. ⌜ r ≡ leadIsWrong (now (word .entry)) ⌝ }
 {
-    let bits = lead_bits();
     let mut number = 0;
     while number < 3 {
         let sent = places::air_bit(word, Sent { number });
-        let right = bits[number];
+        let right = lead_bit(Sent { number });
         if sent != right {
             return true;
         }

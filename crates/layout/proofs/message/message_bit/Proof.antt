@@ -1,10 +1,7 @@
 -- By the field in which the place stands.
 use borrow.Author.Needs.{needs}
-use mathlib.Core.Path.{_∙_, sym, ap}
-use mathlib.Core.List.{List}
-use Prim.Native.Nat.{ℕ, _-_}
+use mathlib.Core.Path.{_∙_, sym}
 use native.Mathlib.Omega.{arith}
-use lib.ListN.{getD}
 use Rattle.layout.proofs.MessageLaws.{message-counter, message-poll, message-house, message-lead}
 use Rattle.layout.proofs.message.message_bit.Statement.{statement}
 use Rattle.layout.proofs.message.message_bit.Tie as tie
@@ -42,20 +39,14 @@ cast-result-5 c = search needs
 returns-3 : tie.Need-returns-3
 returns-3 c = sym (message-house _ (c .before .before .if2 .left) (c .before .if3 .taken))
 
-lead-bits-requires : tie.Need-lead-bits-requires
-lead-bits-requires c κs = search needs
+sub-number : tie.Need-sub-number
+sub-number c = search needs
 
-sub-result : tie.Need-sub-result
-sub-result c = search needs
-
-array-read-result : tie.Need-array-read-result
-array-read-result c = omega arith
+lead-bit-requires : tie.Need-lead-bit-requires
+lead-bit-requires c κs = omega arith
 
 returns-4 : tie.Need-returns-4
-returns-4 c =
-    let past-house = c .before in
-    let entry = past-house .before .before .before in
-    ap (λ (bits : List ℕ). getD bits (98 - entry .args .i) 0) (c .lead-bits .ensures) ∙ sym (message-lead _ (past-house .if3 .left))
+returns-4 c = c .lead-bit .ensures ∙ sym (message-lead _ (c .before .if3 .left))
 
 pub message-bit-spec : {M : Type 1} → statement M
 message-bit-spec =
@@ -72,7 +63,6 @@ message-bit-spec =
     shr-result-3
     cast-result-5
     returns-3
-    lead-bits-requires
-    sub-result
-    array-read-result
+    sub-number
+    lead-bit-requires
     returns-4)
