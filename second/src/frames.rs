@@ -248,7 +248,8 @@ mod tests {
         }
     }
 
-    // The code is cyclic, so a frame that is taken up a few places off is near a turned code word. Early, that word's lead starts with the bit that comes in as the pad: 1 is a wrong pad and 0 a wrong lead. One place late, the next frame's first bit comes in as the pad.
+    // The code is cyclic, so a frame that is taken up a few places off is near a turned code word. Early, that word's lead starts with the bit that comes in
+    // as the pad: 1 is a wrong pad and 0 a wrong lead. One place late, the next frame's first bit comes in as the pad.
     #[test]
     fn frames_taken_up_early_or_one_place_late_are_refused() {
         let link = Link::default();
@@ -281,7 +282,8 @@ mod tests {
         }
     }
 
-    // House 20000 starts with 0 1, so that the last lead bit and these two are a lead; the pad and the next frame's first bit are taken for two wrong bits of the turned code word.
+    // House 20000 starts with 0 1, so that the last lead bit and these two are a lead; the pad and the next frame's first bit are taken for two wrong bits of
+    // the turned code word.
     #[test]
     fn a_frame_taken_up_two_places_late_can_be_another_reading() {
         let link = Link::default();
