@@ -140,6 +140,7 @@ module _ (F : Field) where
 
   -- at the inverse of X the locator is zero exactly if X is in the list
   pub locator_rooted : (X : El) (E : List El) → X ≢ 𝟘 → Memᴰ X E → evaluate K (suc (length E)) (locator K E) (inverse X) ≡ 𝟘
+  locator_rooted X [] n x = elim x [ ]
   locator_rooted X (Z ∷ E) n (Memᴰ.head e) = rw (locator_value K Z E (inverse X), factor_zero X Z n e) (zero-product K _)
   locator_rooted X (Z ∷ E) n (Memᴰ.tail m) = rw (locator_value K Z E (inverse X), locator_rooted X E n m) (product-zero K _)
 
@@ -158,6 +159,7 @@ module _ (F : Field) where
 
   -- and there the evaluator is not zero
   pub evaluator_not_zero : (X : El) (E : List El) → Distinct K E → ((Z : El) → Memᴰ Z E → Z ≢ 𝟘) → Memᴰ X E → evaluate K (length E) (evaluator K E) (inverse X) ≢ 𝟘
+  evaluator_not_zero X [] u n x h = elim x [ ]
   evaluator_not_zero X (Z ∷ E) u n (Memᴰ.head e) h =
       let x : X ≢ 𝟘 = n X (Memᴰ.head e) in
       let r : evaluate K (suc (length E)) (locator K E) (inverse X) ≡ 𝟘 = no_zero_divisor F Z _ (sym (evaluator_head X Z E x e) ∙ h) (n Z (Memᴰ.head refl)) in

@@ -268,7 +268,7 @@ length-flipped xs (p ∷ ps) = length-flipped (flip xs p) ps ∙ length-flip xs 
 pub bits_flipped : {xs : List ℕ} (ps : List ℕ) → AreBits xs → AreBits (flipped xs ps)
 unfolding flipped
 bits_flipped [] b = b
-bits_flipped (p ∷ ps) b = bits_flipped ps (bits_flip p b)
+bits_flipped {xs = xs} (p ∷ ps) b = bits_flipped {xs = flip xs p} ps (bits_flip p b)
 
 -- productBits
 

@@ -1,5 +1,7 @@
 // Bits lent one to a byte: finding one above 1, adding, copying, clearing, turning over, and telling whether a stretch runs past the end.
 
+#![tactic(auto)]
+
 ghost use Rattle.std.specs.Prelude.{◌≡◌, ℕ, ◌+◌, ◌≤◌, ◌<◌, length, take, replicate};
 ghost use mathlib.Core.List.{Memᴰ};
 ghost use Rattle.std.proofs.Math.Seq.{paste};

@@ -1,5 +1,7 @@
 // The operations under C names, each a thin call of the proved one. What C would pad is a field that holds 0.
 
+#![tactic(auto)]
+
 ghost use Rattle.std.specs.Prelude.{◌≡◌, ◌≤◌};
 ghost use Rattle.blentovar.specs.Answers.{SizesAs, DescribesAs, EncodesAs, DecodesAs, EditsAs, OpensAs, SplicesAs, DecodesKeptAs, MakesAs, ReadsAs};
 ghost use Rattle.blentovar.specs.Answers.{LooksAs, ReadsBookAs, WritesBookAs};
@@ -15,7 +17,7 @@ use sheet::Told;
 
 // The sheet's number, 0 where nothing is refused, and n and k.
 #[repr(C)]
-#[derive(Drop)]
+#[derive(Clone, Copy)]
 pub struct SizesAnswer {
     pub number: u32,
     pub zero_after_number: u32,
@@ -25,7 +27,7 @@ pub struct SizesAnswer {
 
 // What is told, and the number of wrong places.
 #[repr(C)]
-#[derive(Drop)]
+#[derive(Clone, Copy)]
 pub struct DecodeAnswer {
     pub number: u32,
     pub buffer: u32,
@@ -35,7 +37,7 @@ pub struct DecodeAnswer {
 
 // A kept record.
 #[repr(C)]
-#[derive(Drop)]
+#[derive(Clone, Copy)]
 pub struct Record {
     pub m: usize,
     pub t: usize,
@@ -47,7 +49,7 @@ pub struct Record {
 
 // What is told, and the record.
 #[repr(C)]
-#[derive(Drop)]
+#[derive(Clone, Copy)]
 pub struct KeptAnswer {
     pub number: u32,
     pub buffer: u32,
@@ -57,7 +59,7 @@ pub struct KeptAnswer {
 
 // The sheet's number, 0 where nothing is refused, and the number of wrong places.
 #[repr(C)]
-#[derive(Drop)]
+#[derive(Clone, Copy)]
 pub struct DecodeKeptAnswer {
     pub number: u32,
     pub zero_after_number: u32,
@@ -66,7 +68,7 @@ pub struct DecodeKeptAnswer {
 
 // The sheet's number, 0 where nothing is refused, the reading, and the number of wrong places.
 #[repr(C)]
-#[derive(Drop)]
+#[derive(Clone, Copy)]
 pub struct ReadAnswer {
     pub number: u32,
     pub house: u16,
@@ -77,7 +79,7 @@ pub struct ReadAnswer {
 
 // The sheet's number, 0 where nothing is refused, and the count of frames.
 #[repr(C)]
-#[derive(Drop)]
+#[derive(Clone, Copy)]
 pub struct LookAnswer {
     pub number: u32,
     pub zero_after_number: u32,
@@ -86,7 +88,7 @@ pub struct LookAnswer {
 
 // The sheet's number, 0 where nothing is refused, and the part of the book: where it starts and how long it is.
 #[repr(C)]
-#[derive(Drop)]
+#[derive(Clone, Copy)]
 pub struct PartAnswer {
     pub number: u32,
     pub zero_after_number: u32,

@@ -9,14 +9,14 @@ use crate::mark::mark_bytes;
 use sheet::{Outcome, Refusal};
 
 // How many frames a book has. A refusal has 0 beside it.
-#[derive(Drop)]
+#[derive(Clone, Copy)]
 pub struct Looked {
     pub outcome: Outcome,
     pub count: usize,
 }
 
 // Where a frame of a book starts and ends. A refusal has 0 and 0 beside it.
-#[derive(Drop)]
+#[derive(Clone, Copy)]
 pub struct Found {
     pub outcome: Outcome,
     pub from: usize,

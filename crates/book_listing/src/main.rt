@@ -1,5 +1,7 @@
 // Lists the readings of a book: a line for every frame of it, or why it is refused.
 
+#![tactic(auto)]
+
 fn main() {
     lister::list_book();
 }

@@ -1,5 +1,7 @@
 // Makes a book of frames, 32 bytes each and at most 1,000 of them.
 
+#![tactic(auto)]
+
 ghost use Rattle.std.specs.Prelude.{◌≡◌, length};
 
 use libc::{STDERR_FILENO, STDOUT_FILENO};

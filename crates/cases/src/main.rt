@@ -1,5 +1,7 @@
 // A test: runs the calls that stand in a text on standard input, one to a line, and writes what each answers; the second program writes the same.
 
+#![tactic(auto)]
+
 ghost use Rattle.std.specs.Prelude.{◌≡◌, length};
 
 mod calling;

@@ -12,7 +12,7 @@ use commands::names::{Command, command_of};
 use commands::numbers::fill_numbers;
 
 // How much of the room for words and stretches is lent, and the record.
-#[derive(Drop)]
+#[derive(Clone, Copy)]
 struct Bench {
     word: usize,
     stretch: usize,

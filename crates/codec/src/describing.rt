@@ -8,7 +8,7 @@ use codes::Look;
 use sheet::{Outcome, Refusal};
 
 // A refusal has zeros beside it.
-#[derive(Drop)]
+#[derive(Clone, Copy)]
 pub struct Described {
     pub outcome: Outcome,
     pub n: usize,

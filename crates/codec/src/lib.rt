@@ -1,5 +1,7 @@
 // The operations on a code and on words that are sent: Sizes, Describe, Encode, Edit.
 
+#![tactic(auto)]
+
 mod describing;
 mod editing;
 mod encoding;

@@ -1,5 +1,7 @@
 // The listed codes: looking one up.
 
+#![tactic(auto)]
+
 ghost use Rattle.std.specs.Prelude.{◌≡◌, ◌-◌, ◌≤◌};
 ghost use Rattle.codes.specs.Table.{ts as Table·ts};
 ghost use Rattle.codes.specs.Look.{row_from};
@@ -11,7 +13,7 @@ use sheet::Refusal;
 pub use table::first_row;
 
 // A listed code: what it is named by, its row of the table, and its sizes.
-#[derive(Drop)]
+#[derive(Clone, Copy)]
 pub struct Code {
     pub m: usize,
     pub t: usize,
@@ -21,7 +23,7 @@ pub struct Code {
 }
 
 // The code where every check so far has passed, or the refusal of the first that has not.
-#[derive(Drop)]
+#[derive(Clone, Copy)]
 pub enum Look {
     Passes(Code),
     Refused(Refusal),

@@ -2,7 +2,7 @@
 
 use check::same;
 
-#[derive(Drop)]
+#[derive(Clone, Copy)]
 pub enum Command {
     Word,
     Fill,

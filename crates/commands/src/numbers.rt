@@ -4,7 +4,7 @@ ghost use Rattle.std.specs.Prelude.{◌≡◌, ◌≤◌, length};
 
 use bytes::scan;
 
-#[derive(Drop)]
+#[derive(Clone, Copy)]
 struct Value {
     is_number: bool,
     so_far: usize,
@@ -57,7 +57,7 @@ fn put_number(numbers: &mut [usize], count: usize, value: Value) -> usize
 }
 
 // Whether a line has numbers only, as many as there is room for, and how many were found.
-#[derive(Drop)]
+#[derive(Clone, Copy)]
 pub struct Found {
     pub is_all: bool,
     pub count: usize,

@@ -1,5 +1,7 @@
 // Decode: the code word within t of what came in.
 
+#![tactic(auto)]
+
 ghost use Rattle.std.specs.Prelude.{◌≡◌, take};
 ghost use Rattle.sheet.specs.declared.Outcome.TheVariants.{Refused};
 ghost use Rattle.codes.specs.Work.{Checked};
@@ -11,7 +13,7 @@ use locate::Found;
 use sheet::{Outcome, Refusal};
 
 // `wrong` is the number of wrong places, and 0 beside a refusal.
-#[derive(Drop)]
+#[derive(Clone, Copy)]
 pub struct Decoded {
     pub outcome: Outcome,
     pub wrong: usize,

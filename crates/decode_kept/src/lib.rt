@@ -1,5 +1,7 @@
 // Decode kept: the places that have the stored sums, turned over in the stored bits.
 
+#![tactic(auto)]
+
 ghost use Rattle.sheet.specs.Verdict.{Always, Searches};
 ghost use Rattle.codes.specs.Work.{Checked};
 ghost use Rattle.decode.specs.Decode.{as_lent, left_by};

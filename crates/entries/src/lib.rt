@@ -1,5 +1,7 @@
 // Rows of 16-bit entries: filling the first of them, and looking at them.
 
+#![tactic(auto)]
+
 ghost use Rattle.std.specs.Prelude.{◌≡◌, ◌++◌, ◌-◌, ◌≤◌, length, get_or, replicate};
 ghost use Rattle.entries.specs.Entries.{Filled, nothing, entry, AllZero, Same};
 

@@ -8,7 +8,7 @@ use codes::Code;
 use kept::{Answer, Kept};
 
 // A record and what has been answered so far.
-#[derive(Drop)]
+#[derive(Clone, Copy)]
 struct Step {
     record: Kept,
     tally: Tally,

@@ -85,7 +85,7 @@ pub(crate) fn flip_hidden(state: &mut u64, code: Code, word: &mut [u8])
 }
 
 // The bits of a stretch stand at the front of the room for them.
-#[derive(Drop)]
+#[derive(Clone, Copy)]
 pub(crate) struct Stretch {
     pub(crate) start: usize,
     pub(crate) long: usize,

@@ -1,5 +1,7 @@
 // A test: calls the operations with every one of the 232 codes and writes what comes of it; the second program writes the same.
 
+#![tactic(auto)]
+
 ghost use Rattle.std.specs.Prelude.{◌≤◌};
 ghost use Rattle.codes.specs.Work.{Known};
 

@@ -8,7 +8,7 @@ use decode::Decoded;
 use sheet::Outcome;
 
 // `state` is the state of the generator of made-up numbers.
-#[derive(Drop)]
+#[derive(Clone, Copy)]
 pub(crate) struct Tally {
     pub(crate) state: u64,
     pub(crate) mended: u64,

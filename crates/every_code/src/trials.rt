@@ -9,7 +9,7 @@ use crate::{keeping, mending, room, tally, words};
 use codes::Code;
 use libc::STDOUT_FILENO;
 
-#[derive(Drop)]
+#[derive(Clone, Copy)]
 enum Trial {
     // The word whose bits are the number of the turn is decoded.
     EachWord,

@@ -1,5 +1,7 @@
 // The field of 2^m elements, m from 3 to 10. An element is a number below 2^m whose bit i is the coefficient of a^i.
 
+#![tactic(auto)]
+
 ghost use Rattle.std.specs.Prelude.{◌≡◌, ◌+◌, ◌*◌, ◌%◌, ◌^◌, ◌<◌, length};
 ghost use Rattle.field.specs.Product.{IsField, polynomial, ◌⊗⟨◌⟩◌};
 ghost use Rattle.field.specs.Power.{a, n_of, power, inverse};

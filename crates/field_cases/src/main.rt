@@ -1,5 +1,7 @@
 // A test: writes values of the field that can be worked out without this code.
 
+#![tactic(auto)]
+
 ghost use Rattle.std.specs.Prelude.{◌^◌, ◌<◌};
 ghost use Rattle.field.specs.Product.{IsField};
 ghost use Rattle.field.specs.Tables.{Tables};

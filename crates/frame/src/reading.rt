@@ -10,7 +10,7 @@ use layout::{Reading, Sent};
 use sheet::{Outcome, Refusal};
 
 // A refusal has zeros beside it.
-#[derive(Drop)]
+#[derive(Clone, Copy)]
 pub struct ReadFrame {
     pub outcome: Outcome,
     pub reading: Reading,

@@ -1,12 +1,14 @@
 // Reading standard input: one read into a buffer that may hold bytes already, and all of it as far as there is room.
 
+#![tactic(auto)]
+
 ghost use Rattle.std.specs.Prelude.{◌≡◌, ◌≤◌, min, length};
 ghost use Rattle.input.specs.Reads.{ReadsAfter, ReadsOn};
 
 use libc::STDIN_FILENO;
 
 // What a read gave. If it gave no byte, either the read has failed or the input has ended.
-#[derive(Drop)]
+#[derive(Clone, Copy)]
 pub struct Came {
     pub count: usize,
     pub failed: bool,

@@ -1,5 +1,7 @@
 // The kept record, and Open.
 
+#![tactic(auto)]
+
 mod checking;
 mod opening;
 
@@ -8,7 +10,7 @@ pub use opening::open;
 use sheet::Outcome;
 
 // A received word, place by place, kept with its odd sums.
-#[derive(Drop)]
+#[derive(Clone, Copy)]
 pub struct Kept {
     pub m: usize,
     pub t: usize,
@@ -16,7 +18,7 @@ pub struct Kept {
     pub sums: [u16; 255],
 }
 
-#[derive(Drop)]
+#[derive(Clone, Copy)]
 pub struct Answer {
     pub outcome: Outcome,
     pub record: Kept,

@@ -1,5 +1,7 @@
 // The run of the key equation: from the odd sums to the polynomial whose zeros tell the wrong places.
 
+#![tactic(auto)]
+
 ghost use Rattle.std.specs.Prelude.{◌≡◌, ℕ, ◌+◌, ◌*◌, ◌^◌, ◌≤◌, ◌<◌, length, get_or, replicate};
 ghost use Rattle.entries.specs.Entries.{Filled, entry};
 ghost use Rattle.field.specs.Tables.{Tables};
@@ -23,7 +25,7 @@ fn square_sums(m: usize, powers: &[u16], logs: &[u16], t: usize, sums: &[u16], a
 }
 
 // The numbers that go with the arrays: l bounds sigma's degree, and B is q times b moved up by gap places.
-#[derive(Drop)]
+#[derive(Clone, Copy)]
 struct At {
     l: usize,
     gap: usize,

@@ -1,5 +1,7 @@
 // Where the bits of a reading stand: in its message, in the places of the word, in the bytes of a frame.
 
+#![tactic(auto)]
+
 mod bytes;
 mod message;
 mod places;

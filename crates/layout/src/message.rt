@@ -8,7 +8,7 @@ use crate::places;
 use crate::places::Sent;
 
 // What a frame carries.
-#[derive(Drop)]
+#[derive(Clone, Copy)]
 pub struct Reading {
     pub house: u16,
     pub poll: u16,

@@ -6,13 +6,13 @@ ghost use Rattle.layout.specs.Frame.{sent_bit};
 ghost use Rattle.layout.specs.Work.{air_bit, Gathered};
 
 // Counts powers of x from the low end, 0 to 254.
-#[derive(Drop)]
+#[derive(Clone, Copy)]
 pub struct Place {
     pub number: usize,
 }
 
 // Counts bits from the first on the air, 0 to 255; the last is the pad, which has no place.
-#[derive(Drop)]
+#[derive(Clone, Copy)]
 pub struct Sent {
     pub number: usize,
 }

@@ -1,5 +1,7 @@
 // One line of the listing, or the line of an input that is refused as a whole, into a lent buffer.
 
+#![tactic(auto)]
+
 ghost use Rattle.std.specs.Prelude.{◌+◌, ◌≤◌, length};
 ghost use Rattle.line.specs.Line.{decimal, read_line, refused_line, refusal_line, line_of, Writes};
 ghost use Rattle.line.specs.Work.{Put, PutField};

@@ -1,5 +1,7 @@
 // Lists the readings of frames that come in on standard input, a line for each on standard output. What has come is listed before more is waited for.
 
+#![tactic(auto)]
+
 mod books;
 
 ghost use Rattle.std.specs.Prelude.{◌≡◌, ◌+◌, ◌*◌, ◌≤◌, length};
@@ -10,7 +12,7 @@ pub use books::list_book;
 use libc::{STDERR_FILENO, STDOUT_FILENO};
 
 // How far the work is: the frames listed, the bytes held of a frame that has come in part, and the bytes of lines to write.
-#[derive(Drop)]
+#[derive(Clone, Copy)]
 struct Progress {
     listed: u64,
     held: usize,

@@ -1,5 +1,7 @@
 // Lists the readings of frames, 32 bytes each: a line for every frame that comes in.
 
+#![tactic(auto)]
+
 fn main() {
     lister::list();
 }

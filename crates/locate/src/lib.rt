@@ -1,5 +1,7 @@
 // From a word or its kept sums to the wrong places, with the powers of a made for the one call that needs them.
 
+#![tactic(auto)]
+
 ghost use Rattle.std.specs.Prelude.{◌≡◌, ℕ, ◌+◌, ◌^◌, ◌≤◌, ◌<◌, length, get_or, take, replicate};
 ghost use Rattle.bits.specs.Bits.{AreBits};
 ghost use Rattle.entries.specs.Entries.{Filled};
@@ -11,13 +13,13 @@ ghost use Rattle.locate.specs.Search.{Searched, WordSearched};
 ghost use Rattle.locate.specs.Work.{plus_term, tried, NotedOne, Tried, Agrees, Sought};
 
 // How many places were found, or the answer that no set of places has these sums.
-#[derive(Drop)]
+#[derive(Clone, Copy)]
 pub enum Found {
     Places(usize),
     Nothing,
 }
 
-#[derive(Drop)]
+#[derive(Clone, Copy)]
 pub struct Search {
     pub answer: Found,
     pub places: [u16; 255],

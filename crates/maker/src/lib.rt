@@ -1,5 +1,7 @@
 // Makes frames of typed lines that come in on standard input, 32 bytes each on standard output; a line that says no reading is named on standard error.
 
+#![tactic(auto)]
+
 ghost use Rattle.std.specs.Prelude.{◌≡◌, [], ◌∷◌, ◌+◌, ◌≤◌, length};
 ghost use Rattle.maker.specs.Making.{Fills, FillsLast};
 ghost use Rattle.maker.specs.Work.{Room, Ready, StepReady, Steps, Keeps, PutFrame, PutName, emptied};
@@ -10,7 +12,7 @@ use typed::Typed;
 
 // How far the work is: the lines that have ended, the bytes held of the line that has not, and the bytes of frames and of names that stand in their buffers.
 // Public, since theorems of another crate speak of it.
-#[derive(Drop)]
+#[derive(Clone, Copy)]
 pub struct Progress {
     pub lines: u64,
     pub held: usize,

@@ -1,5 +1,7 @@
 // A test: the program listing with six nights of made-up readings as its stored input; the second program lists the same.
 
+#![tactic(auto)]
+
 fn main() {
     lister::list();
 }

@@ -1,5 +1,7 @@
 // The one code word that carries a message in its top places: the message put there, and its parity below. Also the change of a message.
 
+#![tactic(auto)]
+
 ghost use Rattle.std.specs.Prelude.{◌≡◌, ◌+◌, ◌≤◌, length, take, replicate};
 ghost use Rattle.std.proofs.Math.Seq.{paste};
 ghost use Rattle.codes.specs.Encoding.{Encoding};

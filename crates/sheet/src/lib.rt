@@ -1,9 +1,11 @@
 // The refusal sheet: one variant for each number, with its condition; it is given where no earlier check has refused. Also what the checks come to.
 
+#![tactic(auto)]
+
 ghost use Rattle.std.specs.Prelude.{◌≡◌};
 ghost use Rattle.sheet.specs.Number.{number_of, outcome_number, plainly, told_of, outcome_told};
 
-#[derive(Drop)]
+#[derive(Clone, Copy)]
 pub enum Refusal {
     // 1: m is not 3 to 10.
     FieldSize,
@@ -38,7 +40,7 @@ pub enum Refusal {
 }
 
 // What the checks of an operation come to, and what an operation answers beside its values.
-#[derive(Drop)]
+#[derive(Clone, Copy)]
 pub enum Outcome {
     Done,
     Refused(Refusal),
@@ -46,7 +48,7 @@ pub enum Outcome {
 
 // What a caller is told: the number, 0 where nothing is refused; with 5 the buffer and the place, and 0 and 0 with any other number.
 #[repr(C)]
-#[derive(Drop)]
+#[derive(Clone, Copy)]
 pub struct Told {
     pub number: u32,
     pub buffer: u32,

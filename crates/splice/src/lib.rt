@@ -1,5 +1,7 @@
 // Splice: a stretch of a kept word replaced, and its sums brought up to date by the places that changed.
 
+#![tactic(auto)]
+
 ghost use Rattle.std.specs.Prelude.{length};
 ghost use Rattle.codes.specs.Work.{Checked};
 ghost use Rattle.splice.specs.Splice.{Splices, Spliced, splice_checks};

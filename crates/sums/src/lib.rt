@@ -1,5 +1,7 @@
 // The sums of words and of places: S_1, S_3, .. S_(2t-1) in a row of t entries.
 
+#![tactic(auto)]
+
 ghost use Rattle.std.specs.Prelude.{◌≡◌, ℕ, ◌≤◌, ◌<◌, length, get_or, take, replicate};
 ghost use Rattle.bits.specs.Bits.{AreBits};
 ghost use Rattle.entries.specs.Entries.{Filled};

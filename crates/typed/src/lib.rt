@@ -1,19 +1,21 @@
 // A typed line, `house poll counter`, read into a reading.
 
+#![tactic(auto)]
+
 ghost use Rattle.std.specs.Prelude.{◌+◌, ◌≤◌};
 ghost use Rattle.typed.specs.Says.{Answers};
 ghost use Rattle.typed.specs.Work.{BlankAt, AnswersPoll, AnswersCounter, AnswersNumber, AnswersSpelled, AnswersDigit};
 
 use layout::Reading;
 
-#[derive(Drop)]
+#[derive(Clone, Copy)]
 pub enum Typed {
     Said(Reading),
     Nothing,
 }
 
 // A number that was read, or the answer that there is none.
-#[derive(Drop)]
+#[derive(Clone, Copy)]
 enum Value {
     Is(u64),
     Nothing,

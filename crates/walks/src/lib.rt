@@ -1,5 +1,7 @@
 // Walking through the powers of a: multiples of them added to a row of entries.
 
+#![tactic(auto)]
+
 ghost use Rattle.std.specs.Prelude.{◌≡◌, ◌+◌, ◌^◌, ◌≤◌, ◌<◌, length, get_or};
 ghost use Rattle.entries.specs.Entries.{Filled};
 ghost use Rattle.field.specs.Product.{IsField};
