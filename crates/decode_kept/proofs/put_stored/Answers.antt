@@ -11,11 +11,11 @@ pub slice_bounds-bits-end : goal.slice_bounds-bits-end
 slice_bounds-bits-end c = omega (arith, (let h : length c.args.stored.bits ≡ 1023 = search rules in h), c.requires.ready.known.small)
 
 pub slice_bounds-put_down-end : goal.slice_bounds-put_down-end
-slice_bounds-put_down-end c = sym (length-take-le c.args.code.n c.args.stored.bits (omega (arith, bits_long entry, c.requires.ready.known.small)))
+slice_bounds-put_down-end c = sym (length-take-le c.args.code.n c.args.stored.bits (omega (arith, (let h : length c.args.stored.bits ≡ 1023 = search rules in h), c.requires.ready.known.small)))
 
 pub put_down-requires : goal.put_down-requires
 put_down-requires c =
-    stored_can_put c.requires (length-take-le c.args.code.n c.args.stored.bits (omega (arith, bits_long entry, c.requires.ready.known.small)))
+    stored_can_put c.requires (length-take-le c.args.code.n c.args.stored.bits (omega (arith, (let h : length c.args.stored.bits ≡ 1023 = search rules in h), c.requires.ready.known.small)))
 
 pub returns : goal.returns
 returns c =
