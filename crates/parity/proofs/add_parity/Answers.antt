@@ -1,0 +1,51 @@
+-- The word is divided in a copy, and what is left is added.
+use mathlib.Core.Path.{◌≡◌, ◌∙◌, sym, ap, subst}
+use mathlib.Core.List.{List, ◌++◌}
+use Prim.Native.Nat.{ℕ, ◌≤◌}
+use native.Mathlib.Omega.{arith}
+use lib.ListN.{length, take, drop, length-append}
+use lib.Seq.{length-take-le, take-append-le}
+use Rattle.bits.specs.Bits.{AreBits}
+use Rattle.bits.specs.Work.{added_at}
+use Rattle.bits.proofs.Turns.{copied_front}
+use Rattle.generator.specs.Work.{Reduced}
+use Rattle.parity.proofs.Parity.{with_parity}
+use Rattle.parity.proofs.add_parity.Goals as goal
+
+-- the front of the copy is the word, of the same length
+divided : {d : ℕ} {g old word left : List ℕ} → old ≡ word → Reduced d g old left → Reduced d g word left
+divided {d} {g} {left = left} e r = subst (λ (l : List ℕ). Reduced d g l left) e r
+
+front : (d : ℕ) (left rest : List ℕ) → d ≤ length left → take d (left ++ rest) ≡ take d left
+front d left rest h = take-append-le d left rest h
+
+front_long : (d : ℕ) (left rest : List ℕ) → d ≤ length left → length (take d (left ++ rest)) ≡ d
+front_long d left rest h = ap length (front d left rest h) ∙ length-take-le d left h
+
+reaches : (d : ℕ) (left rest : List ℕ) → d ≤ length left → d ≤ length (left ++ rest)
+reaches d left rest h = omega (arith, length-append left rest)
+
+pub slice_bounds-reduce-end : goal.slice_bounds-reduce-end
+slice_bounds-reduce-end c = sym (ap length (copied_front _ c.args.word.now _ c.copy_at.ensures))
+
+pub reduce-requires : goal.reduce-requires
+reduce-requires c =
+    let p = c.requires in
+    (subst AreBits (sym (copied_front _ c.args.word.now _ c.copy_at.ensures)) p.word_bits, p.g_bits, p.g_long, p.g_top)
+
+pub slice_bounds-space-end-2 : goal.slice_bounds-space-end-2
+slice_bounds-space-end-2 c =
+    reaches _ (c.reduce.new.word) (drop (length c.args.word.now) c.copy_at.new.dst) (let h : c.args.d ≤ length (c.reduce.new.word) = rw (c.reduce.auto.word ∙ ap length (copied_front _ c.args.word.now _ c.copy_at.ensures)) c.requires.fits in h)
+
+pub slice_bounds-add_at-end : goal.slice_bounds-add_at-end
+slice_bounds-add_at-end c =
+    sym (front_long _ (c.reduce.new.word) (drop (length c.args.word.now) c.copy_at.new.dst) (let h : c.args.d ≤ length (c.reduce.new.word) = rw (c.reduce.auto.word ∙ ap length (copied_front _ c.args.word.now _ c.copy_at.ensures)) c.requires.fits in h))
+
+pub add_at-requires : goal.add_at-requires
+add_at-requires c =
+    omega (arith, front_long _ (c.reduce.new.word) (drop (length c.args.word.now) c.copy_at.new.dst) (let h : c.args.d ≤ length (c.reduce.new.word) = rw (c.reduce.auto.word ∙ ap length (copied_front _ c.args.word.now _ c.copy_at.ensures)) c.requires.fits in h), c.requires.fits)
+
+pub returns : goal.returns
+returns c =
+    with_parity c.requires.word_bits (divided (copied_front _ c.args.word.now _ c.copy_at.ensures) c.reduce.ensures) (c.reduce.auto.word ∙ ap length (copied_front _ c.args.word.now _ c.copy_at.ensures)) c.requires.fits
+    (c.add_at.ensures ∙ ap (added_at c.args.word.now 0) (front _ (c.reduce.new.word) (drop (length c.args.word.now) c.copy_at.new.dst) (let h : c.args.d ≤ length (c.reduce.new.word) = rw (c.reduce.auto.word ∙ ap length (copied_front _ c.args.word.now _ c.copy_at.ensures)) c.requires.fits in h)))
