@@ -124,12 +124,12 @@ part_put {text} {part} lent at room h l w =
 
 -- the fields of a line one after another
 
-pub read_line : {l m₁ m₂ m₃ m₄ r : List ℕ} {f wrong a b d e n : ℕ} (reading : Reading) → PutField l 0 f read_text m₁ a
+pub read_line_lem : {l m₁ m₂ m₃ m₄ r : List ℕ} {f wrong a b d e n : ℕ} (reading : Reading) → PutField l 0 f read_text m₁ a
     → PutField m₁ a reading.house space m₂ b
     → PutField m₂ b reading.poll space m₃ d → PutField m₃ d reading.counter space m₄ e → PutField m₄ e wrong newline r n → 128 ≤ length l
     → Writes (read_line f reading wrong) l r n
 unfolding read_line
-read_line {l} {r = r} {f} {wrong} {n = n} reading p₁ p₂ p₃ p₄ p₅ h =
+read_line_lem {l} {r = r} {f} {wrong} {n = n} reading p₁ p₂ p₃ p₄ p₅ h =
     let p = put_then (put_then (put_then (put_then p₁.put p₂.put) p₃.put) p₄.put) p₅.put in
     put_line (simp append_assoc (simp append_assoc at p)) (omega (arith, p₁.most, p₂.most, p₃.most, p₄.most, p₅.most))
 

@@ -1,0 +1,7 @@
+-- Two fields, each with the text after it.
+use Rattle.line.proofs.LineLaws.{refused_line_lem}
+use Rattle.line.proofs.write_refused.Goals as goal
+
+pub returns : goal.returns
+returns c =
+    refused_line_lem _ c.number-given.ensures c.put_field-at.ensures c.put_field.ensures c.requires
