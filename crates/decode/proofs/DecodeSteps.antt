@@ -59,7 +59,7 @@ pub put_mends : {c : Code} {sums received places lentWord lentList word list : L
     → MendsWithin c c.t received lentWord lentList answer.outcome (left_by answer word list)
 put_mends {places = places} R S E P =
     finds P.is_done
-    (mends R.known.of_m.listed R.received_bits (R.received_long ∙ R.known.is_n) S.holds E P.counts P.is_IsWord
+    (mends R.known.of_m.listed R.received_bits (R.received_long ∙ R.known.is_n) S.holds E P.counts P.is_word
     (P.is_list ∙ ap (λ (x : ℕ). places ++ replicate (x - length places) 0) R.list_long))
 
 -- what the search tells, by its answer

@@ -152,7 +152,7 @@ module _ {stored : Kept} (F : Faithful stored) (lentWord lentList : List ℕ) wh
       → Searches (MendsKept (kept_code stored) stored) (NoSet (kept_code stored) stored) (as_lent lentWord lentList) answer left
       → MendsWithin (kept_code stored) stored.t (kept_word stored) lentWord lentList answer left
   same_search (finds e M) =
-      finds e (mends F.known.of_m.listed F.bits (word_long F) F.sums M.located M.counts M.is_IsWord M.is_list)
+      finds e (mends F.known.of_m.listed F.bits (word_long F) F.sums M.located M.counts M.is_word M.is_list)
   same_search (finds_nothing e none s) = finds_nothing e (nothing_near_lem F.known.of_m.listed F.bits (word_long F) F.sums none) s
 
   decodes_kept : {x : Decoded} {word list : List ℕ} → DecodesKept stored lentWord lentList x word list

@@ -136,7 +136,7 @@ splice_nothing {stored} {start} {x} z p =
 mends_kept_one : {c : Code} {stored : Kept} {x y : Mended} → IsField c.m → MendsKept c stored x → MendsKept c stored y → x ≡ y
 mends_kept_one {c} {stored} L M N =
     let e = one_set L M.located N.located in
-    left_same (M.counts ∙ ap length e ∙ sym N.counts) (M.is_IsWord ∙ ap (flipped (take c.n stored.bits)) e ∙ sym N.is_IsWord)
+    left_same (M.counts ∙ ap length e ∙ sym N.counts) (M.is_word ∙ ap (flipped (take c.n stored.bits)) e ∙ sym N.is_word)
     (M.is_list ∙ ap (λ (ps : List ℕ). ps ++ replicate (c.t - length ps) 0) e ∙ sym N.is_list)
 
 pub decode_kept_one : {stored : Kept} {lentWord lentList word list word' list' : List ℕ} {x y : Decoded} → DecodesKept stored lentWord lentList x word list

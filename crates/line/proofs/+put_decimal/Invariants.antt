@@ -1,4 +1,4 @@
--- The number falls at each call; its last digit is stored after those before it.
+-- The number falls at each call.
 use Rattle.line.proofs.+put_decimal.Given as goal
 
 abbrev pub decreases-put_decimal : goal.decreases-put_decimal

@@ -1,0 +1,19 @@
+-- The checks, then the search.
+use Rattle.codes.proofs.CheckLaws.{passed_known, passed_checks, on-passed, on-refused-as}
+use Rattle.decode.proofs.DecodeSteps.{decode_ready, left_as_lent}
+use Rattle.decode.proofs.decode.Goals as goal
+
+pub mend_received-requires : goal.mend_received-requires
+mend_received-requires c =
+    let e = c.in-Passes.is in
+    let p = c.checks-checked.ensures in
+    decode_ready _ c.args.word.now c.args.list.now (passed_known e p) (passed_checks e p)
+
+pub returns-in-Passes : goal.returns-in-Passes
+returns-in-Passes c =
+    on-passed c.in-Passes.is c.checks-checked.ensures c.mend_received.ensures
+
+pub returns-in-Refused : goal.returns-in-Refused
+returns-in-Refused c =
+    let r = c.refused.ensures in
+    on-refused-as c.in-Refused.is c.checks-checked.ensures r.0 (left_as_lent _ _ r.1)

@@ -1,0 +1,52 @@
+-- What is found has the sums. Where nothing is found, there is no list with these sums, since the trial would have found it.
+use native.Mathlib.Omega.{arith}
+use Rattle.key.proofs.MendLaws.{space_long}
+use Rattle.locate.proofs.FindLaws.{not_passed, not-many, not-other, found_below, located, solved_below}
+use Rattle.locate.proofs.find_places.Goals as goal
+
+pub returns-then-t-l : goal.returns-then-t-l
+returns-then-t-l c = record { some = λ h. absurd (omega (arith, c.if-t-l.true)); none = λ h ps u. not_passed c.solve-l.ensures u h }
+
+pub try_all-found-requires : goal.try_all-found-requires
+try_all-found-requires c = (
+  c.requires.0,
+  omega
+      (arith, c.requires.1, c.if-t-l.false, c.solve-l.auto.sigma, space_long c.requires.4),
+  solved_below c.solve-l.ensures c.if-t-l.false,
+  c.requires.5,
+)
+
+pub returns-then-t-found : goal.returns-then-t-found
+returns-then-t-found c =
+    record {
+      some = λ h. absurd (omega (arith, c.if-t-found.true));
+      none = λ h ps u. not-many c.solve-l.ensures u c.if-t-l.false c.try_all-found.ensures h;
+    }
+
+pub compare-same-requires : goal.compare-same-requires
+compare-same-requires c =
+    let k = c.try_all-found.auto.places in (
+      c.requires.0.listed,
+      c.requires.0.powers_hold,
+      c.requires.1,
+      omega (arith, c.if-t-found.false, c.requires.5, k),
+      found_below c.try_all-found.ensures c.if-t-found.false (omega (arith, c.requires.5, k)),
+      c.requires.2,
+    )
+
+pub returns-then-same : goal.returns-then-same
+returns-then-same c =
+    record {
+      some = λ h. located c.try_all-found.ensures h
+          (omega (arith, c.requires.5, c.try_all-found.auto.places)) c.compare-same.ensures
+          c.if-same.true;
+      none = λ h. absurd (omega (arith, c.if-t-found.false));
+    }
+
+pub returns : goal.returns
+returns c =
+    record {
+      some = λ h. absurd (omega arith);
+      none = λ h ps u. not-other c.solve-l.ensures u c.if-t-l.false c.try_all-found.ensures
+          c.if-t-found.false c.compare-same.ensures c.if-same.false;
+    }
