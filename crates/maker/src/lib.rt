@@ -45,7 +45,13 @@ fn line_space() -> [u8; 63]
 }
 
 // A line that is cut off by the last byte read or by a failure is not taken: its counter may be cut too.
-fn make_blocks<R: Read>(reader: &mut R, block: &mut [u8], line: &mut [u8], frames: &mut [u8], names: &mut [u8])
+fn make_blocks<R: Read>(
+    reader: &mut R,
+    block: &mut [u8],
+    line: &mut [u8],
+    frames: &mut [u8],
+    names: &mut [u8],
+)
     requires { (length block.old ≡ 1000) × Room line.old frames.old names.old }
 {
     let mut at = Progress {
