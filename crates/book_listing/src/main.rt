@@ -2,6 +2,6 @@
 
 #![tactic(auto)]
 
-fn main() {
-    lister::list_book();
+fn main(rt: HostRuntime) {
+    lister::list_book(&mut rt.stdin());
 }

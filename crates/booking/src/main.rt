@@ -4,7 +4,7 @@
 
 ghost use Rattle.std.specs.Prelude.{◌≡◌, length};
 
-use libc::{STDERR_FILENO, STDOUT_FILENO};
+use input::{STDERR_FILENO, STDOUT_FILENO};
 use sheet::{Outcome, Refusal};
 
 // One byte more than 1,000 frames have, so that a longer input is refused.
@@ -49,10 +49,10 @@ fn make_book(frames: &[u8], book: &mut [u8]) {
     }
 }
 
-fn main() {
+fn main(rt: HostRuntime) {
     let mut frames = frames_space();
     let mut book = book_space();
-    let came = input::read_whole(&mut frames);
+    let came = input::read_whole(&mut rt.stdin(), &mut frames);
     if came.failed {
         io::write_all(STDERR_FILENO, b"booking: reading standard input failed\n");
         return;

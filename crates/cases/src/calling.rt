@@ -109,7 +109,8 @@ fn edit_copy(
 )
     requires { length word.now ≤ length copy.old }
 {
-    bytes::copy(word, copy);
+    let n = word.len();
+    copy[..n].copy_from_slice(word);
     let told = blentovar::blentovar_edit(m, t, copy, start, stretch);
     show_told(line, told.number, told.buffer, told.place);
     print(b" word");

@@ -11,8 +11,6 @@ mod running;
 mod setting;
 mod showing;
 
-use libc::STDIN_FILENO;
-
 fn text_space() -> [u8; 262144]
     ensures { 262144 ≡ length result }
 {
@@ -20,9 +18,10 @@ fn text_space() -> [u8; 262144]
 }
 
 // A text that fills the room may be longer than it.
-fn main() {
+fn main(rt: HostRuntime) {
     let mut text = text_space();
-    let long = io::read_full(STDIN_FILENO, &mut text);
+    let came = input::read_whole(&mut rt.stdin(), &mut text);
+    let long = came.count;
     if long == 262144 {
         showing::print(b"too long a text\n");
     } else {

@@ -7,9 +7,9 @@ use crate::room;
 use crate::setting::{set_all, set_places};
 use crate::showing::not_understood;
 use blentovar::Record;
-use bytes::scan;
 use commands::names::{Command, command_of};
 use commands::numbers::fill_numbers;
+use commands::scan;
 
 // How much of the room for words and stretches is lent, and the record.
 #[derive(Clone, Copy)]
@@ -84,10 +84,10 @@ fn run_line(line: u64, text: &[u8], word: &mut [u8], stretch: &mut [u8], bench: 
     requires { (bench.word ≤ length word.old) × (bench.stretch ≤ length stretch.old) }
     ensures { (result.word ≤ length word.new) × (result.stretch ≤ length stretch.new) }
 {
-    if scan::find(text, 0, text.len(), b'#') == 0 {
+    if scan::find(text, 0, b'#') == 0 {
         return bench;
     }
-    let end = scan::find(text, 0, text.len(), b' ');
+    let end = scan::find(text, 0, b' ');
     let mut numbers = number_space();
     let found = fill_numbers(text, end, &mut numbers);
     let count = found.count;
@@ -107,7 +107,7 @@ fn run_lines(text: &[u8], word: &mut [u8], stretch: &mut [u8])
     let mut at = 0;
     while at < text.len() {
         line += 1;
-        let end = scan::find(text, at, text.len(), b'\n');
+        let end = scan::find(text, at, b'\n');
         bench = run_line(line, &text[at..end], word, stretch, bench);
         at = end + 1;
     }

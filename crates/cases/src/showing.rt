@@ -4,7 +4,7 @@ ghost use Rattle.std.specs.Prelude.{◌≤◌, length};
 
 use crate::room;
 use blentovar::KeptAnswer;
-use libc::STDOUT_FILENO;
+use input::STDOUT_FILENO;
 
 pub(crate) fn print(words: &[u8]) {
     io::write_all(STDOUT_FILENO, words);

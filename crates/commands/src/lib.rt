@@ -4,3 +4,4 @@
 
 pub mod names;
 pub mod numbers;
+pub mod scan;

@@ -2,7 +2,7 @@
 
 ghost use Rattle.std.specs.Prelude.{◌≡◌, ◌≤◌, length};
 
-use bytes::scan;
+use crate::scan;
 
 #[derive(Clone, Copy)]
 struct Value {
@@ -72,7 +72,7 @@ pub fn fill_numbers(line: &[u8], from: usize, numbers: &mut [usize]) -> Found
     let mut at = from;
     while at < line.len() {
         let start = at + 1;
-        let end = scan::find(line, start, line.len(), b' ');
+        let end = scan::find(line, start, b' ');
         let next = put_number(numbers, count, value_of(&line[start..end]));
         if next == count {
             return Found {

@@ -5,7 +5,7 @@ ghost use Rattle.codes.specs.Work.{Known};
 use crate::text::{print_bits, print_number};
 use crate::{room, tally, words};
 use codes::Code;
-use libc::STDOUT_FILENO;
+use input::STDOUT_FILENO;
 
 // A refusal would show as zeros and question marks, here and below.
 fn print_generator(code: Code, generator: &mut [u8]) {

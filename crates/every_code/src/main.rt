@@ -16,7 +16,7 @@ mod trials;
 mod words;
 
 use codes::{Code, Look};
-use libc::STDOUT_FILENO;
+use input::STDOUT_FILENO;
 use text::print_number;
 
 fn print_code(code: Code)

@@ -32,7 +32,7 @@ pub(crate) fn decode(code: Code, received: &[u8], tally: Tally) -> Tally
 fn decode_flipped(code: Code, count: usize, sent: &[u8], word: &mut [u8], mut tally: Tally) -> Tally
     requires { Known code × (length sent.now ≡ length word.old) }
 {
-    bytes::copy(sent, word);
+    word.copy_from_slice(sent);
     made_up::flip(&mut tally.state, count, word);
     decode(code, word, tally)
 }
@@ -77,7 +77,7 @@ fn decode_hidden(code: Code, word: &mut [u8], mut tally: Tally) -> Tally
 fn decode_far(code: Code, sent: &[u8], word: &mut [u8], tally: Tally) -> Tally
     requires { Known code × (length sent.now ≡ length word.old) × (code.n ≡ length word.old) }
 {
-    bytes::copy(sent, word);
+    word.copy_from_slice(sent);
     let eight = decode_hidden(code, word, tally);
     let mut nine = decode_hidden(code, word, eight);
     made_up::fill(&mut nine.state, word);

@@ -1,6 +1,6 @@
 // Writing to standard output: numbers and bits.
 
-use libc::STDOUT_FILENO;
+use input::STDOUT_FILENO;
 
 // A number with a blank before it.
 pub(crate) fn print_number(x: u64) {

@@ -7,7 +7,7 @@ use crate::tally::Tally;
 use crate::text::print_number;
 use crate::{keeping, mending, room, tally, words};
 use codes::Code;
-use libc::STDOUT_FILENO;
+use input::STDOUT_FILENO;
 
 #[derive(Clone, Copy)]
 enum Trial {

@@ -6,7 +6,7 @@ ghost use Rattle.std.specs.Prelude.{◌^◌, ◌<◌};
 ghost use Rattle.field.specs.Product.{IsField};
 ghost use Rattle.field.specs.Tables.{Tables};
 
-use libc::STDOUT_FILENO;
+use input::STDOUT_FILENO;
 
 fn print(x: u16) {
     io::write_all(STDOUT_FILENO, b" ");

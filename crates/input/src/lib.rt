@@ -5,7 +5,12 @@
 ghost use Rattle.std.specs.Prelude.{◌≡◌, ◌≤◌, min, length};
 ghost use Rattle.input.specs.Reads.{ReadsAfter, ReadsOn};
 
-use libc::STDIN_FILENO;
+use std::io::Read;
+
+// The numbers that the system gives the streams a program writes on.
+pub const STDOUT_FILENO: i32 = 1;
+
+pub const STDERR_FILENO: i32 = 2;
 
 // What a read gave. If it gave no byte, either the read has failed or the input has ended.
 #[derive(Clone, Copy)]
@@ -15,27 +20,31 @@ pub struct Came {
 }
 
 // Reads at most `left` bytes into the buffer, after the bytes that it holds.
-pub fn read_after(held: usize, left: usize, buffer: &mut [u8]) -> Came
+pub fn read_after<R: Read>(reader: &mut R, held: usize, left: usize, buffer: &mut [u8]) -> Came
     requires { held ≤ length buffer.old }
     ensures { ReadsAfter held left buffer.old buffer.new result }
 {
     let most = held + least(left, buffer.len() - held);
-    let got = libc::read(STDIN_FILENO, &mut buffer[held..most]);
-    let count = io::count(got, &buffer[held..most]);
-    Came {
-        count,
-        failed: got < 0,
+    match reader.read(&mut buffer[held..most]) {
+        Ok(read) => Came {
+            count: read,
+            failed: false,
+        },
+        Err(_) => Came {
+            count: 0,
+            failed: true,
+        },
     }
 }
 
 // Reads until the buffer is full, the input ends or a read fails. `count` is all that came.
-pub fn read_whole(buffer: &mut [u8]) -> Came
+pub fn read_whole<R: Read>(reader: &mut R, buffer: &mut [u8]) -> Came
     ensures { ReadsOn buffer.old result.count buffer.new × (result.count ≤ length buffer.new) }
 {
     let room = buffer.len();
     let mut held = 0;
     while held < room {
-        let came = read_after(held, room, buffer);
+        let came = read_after(reader, held, room, buffer);
         if came.count < 1 {
             return Came {
                 count: held,

@@ -5,15 +5,15 @@ ghost use Rattle.lister.specs.Listing.{ListsFirst, frames_in, ListsBook};
 ghost use Rattle.lister.specs.Work.{Counts};
 
 use crate::{put_line, write_or_say};
-use input::Came;
-use libc::STDERR_FILENO;
+use input::{Came, STDERR_FILENO};
 use sheet::Outcome;
+use std::io::Read;
 
 // Lists a book of at most 65,536 bytes, when all of it has come.
-pub fn list_book() {
+pub fn list_book<R: Read>(reader: &mut R) {
     let mut bytes = input_space();
     let mut lines = lines_space();
-    let came = input::read_whole(&mut bytes);
+    let came = input::read_whole(reader, &mut bytes);
     list_input(came, &bytes, &mut lines);
 }
 

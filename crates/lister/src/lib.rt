@@ -9,7 +9,8 @@ ghost use Rattle.lister.specs.Listing.{frame_at, ListsFirst, Lists, TakesIn};
 ghost use Rattle.lister.specs.Work.{Room, AddsLine, moved_front};
 
 pub use books::list_book;
-use libc::{STDERR_FILENO, STDOUT_FILENO};
+use input::{STDERR_FILENO, STDOUT_FILENO};
+use std::io::Read;
 
 // How far the work is: the frames listed, the bytes held of a frame that has come in part, and the bytes of lines to write.
 #[derive(Clone, Copy)]
@@ -20,14 +21,14 @@ struct Progress {
 }
 
 // Lists frames until the input ends, a read or a write fails, or 1,000,000 frames are listed.
-pub fn list() {
+pub fn list<R: Read>(reader: &mut R) {
     let mut frames = io::large_buffer();
     let mut lines = io::large_buffer();
-    list_pieces(&mut frames[..16000], &mut lines);
+    list_pieces(reader, &mut frames[..16000], &mut lines);
 }
 
 // Reads at most 32,000,000 bytes, so that what follows the millionth frame is not read.
-fn list_pieces(frames: &mut [u8], lines: &mut [u8])
+fn list_pieces<R: Read>(reader: &mut R, frames: &mut [u8], lines: &mut [u8])
     requires { (length frames.old ≡ 16000) × (64000 ≤ length lines.old) }
 {
     let mut at = Progress {
@@ -37,7 +38,7 @@ fn list_pieces(frames: &mut [u8], lines: &mut [u8])
     };
     let mut left = 32000000;
     while left > 0 {
-        let came = input::read_after(at.held, left, frames);
+        let came = input::read_after(reader, at.held, left, frames);
         let count = came.count;
         if count < 1 {
             end_input(came.failed, at, frames, lines);

@@ -2,6 +2,6 @@
 
 #![tactic(auto)]
 
-fn main() {
-    lister::list();
+fn main(rt: HostRuntime) {
+    lister::list(&mut rt.stdin());
 }

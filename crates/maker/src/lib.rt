@@ -6,8 +6,9 @@ ghost use Rattle.std.specs.Prelude.{◌≡◌, [], ◌∷◌, ◌+◌, ◌≤◌
 ghost use Rattle.maker.specs.Making.{Fills, FillsLast};
 ghost use Rattle.maker.specs.Work.{Room, Ready, StepReady, Steps, Keeps, PutFrame, PutName, emptied};
 
+use input::{STDERR_FILENO, STDOUT_FILENO};
 use layout::Reading;
-use libc::{STDERR_FILENO, STDOUT_FILENO};
+use std::io::Read;
 use typed::Typed;
 
 // How far the work is: the lines that have ended, the bytes held of the line that has not, and the bytes of frames and of names that stand in their buffers.
@@ -21,12 +22,12 @@ pub struct Progress {
 }
 
 // Makes frames until the input ends, a read or a write fails, or 64,000,000 bytes are read.
-pub fn make_frames() {
+pub fn make_frames<R: Read>(reader: &mut R) {
     let mut block = block_space();
     let mut line = line_space();
     let mut frames = io::large_buffer();
     let mut names = io::large_buffer();
-    make_blocks(&mut block, &mut line, &mut frames, &mut names);
+    make_blocks(reader, &mut block, &mut line, &mut frames, &mut names);
 }
 
 // A block of 1,000 bytes ends at most 1,000 lines, and the buffers have room for their frames and names.
@@ -44,7 +45,13 @@ fn line_space() -> [u8; 63]
 }
 
 // A line that is cut off by the last byte read or by a failure is not taken: its counter may be cut too.
-fn make_blocks(block: &mut [u8], line: &mut [u8], frames: &mut [u8], names: &mut [u8])
+fn make_blocks<R: Read>(
+    reader: &mut R,
+    block: &mut [u8],
+    line: &mut [u8],
+    frames: &mut [u8],
+    names: &mut [u8],
+)
     requires { (length block.old ≡ 1000) × Room line.old frames.old names.old }
 {
     let mut at = Progress {
@@ -55,7 +62,7 @@ fn make_blocks(block: &mut [u8], line: &mut [u8], frames: &mut [u8], names: &mut
     };
     let mut left = 64000000;
     while left > 0 {
-        let came = input::read_after(0, left, block);
+        let came = input::read_after(reader, 0, left, block);
         let count = came.count;
         if count < 1 {
             end_input(came.failed, at, line, frames, names);

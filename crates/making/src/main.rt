@@ -2,6 +2,6 @@
 
 #![tactic(auto)]
 
-fn main() {
-    maker::make_frames();
+fn main(rt: HostRuntime) {
+    maker::make_frames(&mut rt.stdin());
 }

@@ -1,0 +1,18 @@
+// Finding a byte in a text.
+
+ghost use Rattle.std.specs.Prelude.{◌≡◌, ◌≢◌, ◌≤◌, ◌<◌, ℕ, length, slice_index};
+
+// The first place from `start` on that holds the byte, or the end of the text where none does.
+pub fn find(text: &[u8], start: usize, byte: u8) -> usize
+    requires { start ≤ length text.now }
+    ensures low { start ≤ result }
+    ensures high { result ≤ length text.now }
+    ensures found { result < length text.now → slice_index text.now result ≡ byte }
+    ensures first { (k : ℕ) → start ≤ k → k < result → slice_index text.now k ≢ byte }
+{
+    let mut at = start;
+    while at < text.len() && text[at] != byte {
+        at += 1;
+    }
+    at
+}
