@@ -3,7 +3,7 @@ use lib.ListN.{length, set, replicate, length-set, drop_of_length-le}
 use mathlib.Core.Path.{◌≡◌, ◌∙◌, ap}
 use mathlib.Core.List.{List, ◌++◌, append-nil}
 use native.Mathlib.Nat.{le_antisymm}
-use Prim.Native.Nat.{ℕ, ◌+◌, ◌-◌, ◌≤◌, ◌<◌}
+use Prim.Native.Nat.{ℕ, ◌+◌, ◌≤◌, ◌<◌}
 use borrow.Author.Fill.{fill_none, fill_more}
 use Rattle.bits.proofs.clear.Invariants.{Clearing}
 use Rattle.bits.proofs.clear.Goals as goal

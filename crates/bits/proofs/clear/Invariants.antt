@@ -2,7 +2,7 @@
 use lib.ListN.{length, drop, replicate}
 use mathlib.Core.Path.{◌≡◌}
 use mathlib.Core.List.{List, ◌++◌}
-use Prim.Native.Nat.{ℕ, ◌+◌, ◌-◌, ◌≤◌}
+use Prim.Native.Nat.{ℕ, ◌-◌, ◌≤◌}
 use Rattle.bits.proofs.clear.Given as goal
 
 pub record Clearing (first dst : List ℕ) (i : ℕ) : Type 0 where

@@ -1,5 +1,4 @@
 use mathlib.Core.Path.{refl}
-use Prim.Native.Nat.{◌-◌}
 use native.Mathlib.Omega.{arith}
 use Rattle.entries.proofs.FillLaws.{fill_start, fill_next, fill_done}
 use Rattle.entries.proofs.copy_first.Goals as goal

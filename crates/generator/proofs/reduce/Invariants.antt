@@ -1,5 +1,5 @@
 -- The loop keeps: from place i on nothing is left.
-use Prim.Native.Nat.{◌-◌, ◌≤◌}
+use Prim.Native.Nat.{◌≤◌}
 use lib.ListN.{length}
 use Rattle.generator.proofs.Division.{Down}
 use Rattle.generator.proofs.reduce.Given as goal

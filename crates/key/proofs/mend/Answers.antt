@@ -1,4 +1,3 @@
-use Prim.Native.Nat.{◌-◌}
 use native.Mathlib.Omega.{arith}
 use Rattle.key.proofs.MendLaws.{mending_start, mending_next, mending_done}
 use Rattle.key.proofs.mend.Goals as goal

@@ -1,4 +1,3 @@
-use Prim.Native.Nat.{◌-◌}
 use native.Mathlib.Omega.{arith}
 use Rattle.key.proofs.MendLaws.{crossing_start, crossing_next, crossing_done}
 use Rattle.key.proofs.missed.Goals as goal

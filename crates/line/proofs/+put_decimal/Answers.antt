@@ -1,7 +1,7 @@
 -- The last digit is stored after those before it.
 use mathlib.Core.Path.{ap}
 use native.Mathlib.Omega.{arith}
-use lib.ListN.{length, length-set}
+use lib.ListN.{length}
 use Rattle.line.proofs.LineLaws.{decimal_small, decimal_more, decimal_longer, put_one, put_then}
 use Rattle.line.proofs.+put_decimal.Goals as goal
 

@@ -1,5 +1,4 @@
 use mathlib.Core.Path.{◌∙◌}
-use Prim.Native.Nat.{◌-◌}
 use native.Mathlib.Omega.{arith}
 use Rattle.locate.proofs.TrialLaws.{valuing_start, valuing_next, valuing_done}
 use Rattle.locate.proofs.all_values.Goals as goal

@@ -1,5 +1,4 @@
 use mathlib.Core.Path.{◌∙◌}
-use Prim.Native.Nat.{◌-◌}
 use native.Mathlib.Omega.{arith}
 use Rattle.locate.proofs.TrialLaws.{trying_start, trying_next, trying_passed, trying_done}
 use Rattle.field.proofs.Range.{sizes}

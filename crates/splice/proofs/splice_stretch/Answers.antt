@@ -1,5 +1,4 @@
 use Rattle.splice.proofs.SpliceLaws.{stretch_start, stretch_long, stretch_next, stretch_done}
-use Prim.Native.Nat.{◌-◌}
 use native.Mathlib.Omega.{arith}
 use Rattle.splice.proofs.splice_stretch.Goals as goal
 

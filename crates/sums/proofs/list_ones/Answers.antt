@@ -1,4 +1,3 @@
-use Prim.Native.Nat.{◌-◌}
 use native.Mathlib.Omega.{arith}
 use Rattle.sums.proofs.SumSteps.{listing_start, listing_next, listing_done}
 use Rattle.sums.proofs.list_ones.Goals as goal

@@ -1,5 +1,4 @@
 use mathlib.Core.Path.{◌≡◌, ◌∙◌, refl}
-use Prim.Native.Nat.{◌-◌}
 use native.Mathlib.Omega.{arith}
 use Rattle.sums.proofs.SumSteps.{placing_start, placing_next, placing_done}
 use Rattle.sums.proofs.place_sums.Goals as goal

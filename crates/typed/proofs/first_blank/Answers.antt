@@ -1,4 +1,3 @@
-use Prim.Native.Nat.{◌-◌}
 use native.Mathlib.Omega.{arith}
 use Rattle.typed.proofs.SplitLaws.{no_blank_more}
 use Rattle.typed.proofs.first_blank.Goals as goal

@@ -1,5 +1,4 @@
 use mathlib.Core.Path.{subst}
-use Prim.Native.Nat.{◌-◌}
 use native.Mathlib.Omega.{arith}
 use Rattle.typed.specs.Work.{AnswersDigit}
 use Rattle.typed.proofs.SpelledLaws.{spelled_none, spelled_more, spelled_stuck, spelled_all}

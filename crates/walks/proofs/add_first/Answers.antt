@@ -1,4 +1,3 @@
-use Prim.Native.Nat.{◌-◌}
 use native.Mathlib.Omega.{arith}
 use Rattle.walks.proofs.Walks.{walked_start, walked_next, walked_to, walked_by}
 use Rattle.walks.proofs.add_first.Goals as goal

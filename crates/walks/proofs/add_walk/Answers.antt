@@ -1,10 +1,9 @@
 use mathlib.Core.Path.{◌∙◌}
-use Prim.Native.Nat.{◌-◌, ◌*◌, ◌<◌}
+use Prim.Native.Nat.{◌*◌}
 use native.Mathlib.Omega.{arith}
-use Rattle.field.specs.Power.{n_of}
 use Rattle.field.proofs.Range.{sizes}
 use Rattle.field.proofs.Exponents.{around_below}
-use Rattle.walks.proofs.Walks.{walked_start, walked_to, walked_on_by_four, strides, Within, strides_within, walk_done}
+use Rattle.walks.proofs.Walks.{walked_start, walked_to, walked_on_by_four, strides, strides_within, walk_done}
 use Rattle.walks.proofs.add_walk.Goals as goal
 
 pub n_of-n-requires : goal.n_of-n-requires

@@ -1,4 +1,3 @@
-use Prim.Native.Nat.{◌-◌}
 use native.Mathlib.Omega.{arith}
 use Rattle.kept.proofs.RecordLaws.{looking_start, looking_next, looking_high, looking_done}
 use Rattle.kept.proofs.checking.some_at_least.Goals as goal

@@ -1,4 +1,3 @@
-use Prim.Native.Nat.{◌-◌}
 use native.Mathlib.Omega.{arith}
 use Rattle.layout.proofs.FillLaws.{fill_start, fill_next}
 use Rattle.layout.proofs.PackLaws.{packed}

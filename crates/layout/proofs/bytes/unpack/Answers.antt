@@ -1,5 +1,4 @@
 use mathlib.Core.Path.{◌∙◌, ap}
-use Prim.Native.Nat.{◌-◌}
 use Rattle.layout.specs.Frame.{sent_bit, place_bit, word_of}
 use Rattle.bits.proofs.Lists.{list_is}
 use Rattle.layout.proofs.FillLaws.{fill_start, fill_next, fill_done}

@@ -1,4 +1,3 @@
-use Prim.Native.Nat.{◌-◌}
 use Rattle.layout.specs.Frame.{message_bit, message_of}
 use Rattle.bits.proofs.Lists.{list_is}
 use Rattle.layout.proofs.FillLaws.{fill_start, fill_next, fill_done}

@@ -1,5 +1,4 @@
 use mathlib.Core.Path.{◌∙◌, sym}
-use Prim.Native.Nat.{◌-◌}
 use native.Mathlib.Omega.{arith}
 use Rattle.layout.proofs.SentLaws.{air_place}
 use Rattle.layout.proofs.FieldLaws.{sends_next, lead_right, lead_wrong}
