@@ -1,6 +1,6 @@
 -- What the line says decides: its frame is put after the frames, or its name after the names.
 use mathlib.Core.Path.{refl, subst}
-use Rattle.std.proofs.Common.{[], ◌∷◌}
+use Rattle.std.proofs.Common.{[]}
 use Prim.Native.Nat.{◌+◌}
 use native.Mathlib.Omega.{arith}
 use lib.ListN.{length-take}

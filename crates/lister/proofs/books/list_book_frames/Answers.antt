@@ -1,4 +1,3 @@
-use Prim.Native.Nat.{◌-◌}
 use native.Mathlib.Omega.{arith}
 use Rattle.lister.proofs.ListLaws.{none_listed, one_listed, listed_long, all_listed}
 use Rattle.lister.proofs.BookLaws.{part_is, counted_few}
