@@ -26,7 +26,7 @@ fn warn_of_what_cannot_be_linked(library: &Path) {
         println!("cargo:warning=libblentovar.a is x86-64 code and cannot be linked for {processor}: build with `--target x86_64-unknown-linux-gnu`");
     }
     if !library.exists() {
-        println!("cargo:warning=there is no {}: build it with `rt staticlib blentovar` in the repository of Blentovar, or set BLENTOVAR_LIB_DIR to the folder that holds it", library.display());
+        println!("cargo:warning=there is no {}: build it with `./library` in the repository of Blentovar, or set BLENTOVAR_LIB_DIR to the folder that holds it", library.display());
     }
 }
 

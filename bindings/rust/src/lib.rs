@@ -4,7 +4,7 @@
 //!
 //! # How to link it
 //!
-//! The library is x86-64 Linux code. `rt staticlib blentovar` in the repository of Blentovar writes it to `target/staticlib`, where the crate looks for it; if it is elsewhere, the environment variable `BLENTOVAR_LIB_DIR` names its folder. `docs/INTEGRATING.md` in the repository says what the library needs and how much stack each call takes, and `examples/rust` there is a whole program.
+//! The library is x86-64 Linux code. `./library` in the repository of Blentovar writes it to `target/staticlib`, where the crate looks for it; if it is elsewhere, the environment variable `BLENTOVAR_LIB_DIR` names its folder. `docs/INTEGRATING.md` in the repository says what the library needs and how much stack each call takes, and `examples/rust` there is a whole program.
 //!
 //! # How it works
 //!

@@ -1,4 +1,4 @@
-// The operations under C names, each a thin call of the proved one. What C would pad is a field that holds 0.
+// The operations under C names, each a thin call of the proved one; blentovar_c exports them. What C would pad is a field that holds 0.
 
 #![tactic(auto)]
 
@@ -214,32 +214,28 @@ fn part_answer(given: Found) -> PartAnswer
     }
 }
 
-#[unsafe(no_mangle)]
-pub extern "C" fn blentovar_sizes(m: usize, t: usize) -> SizesAnswer
+pub fn blentovar_sizes(m: usize, t: usize) -> SizesAnswer
     ensures { SizesAs m t result }
 {
     let given = codec::sizes(m, t);
     sizes_answer(given)
 }
 
-#[unsafe(no_mangle)]
-pub extern "C" fn blentovar_describe(m: usize, t: usize, generator: &mut [u8]) -> SizesAnswer
+pub fn blentovar_describe(m: usize, t: usize, generator: &mut [u8]) -> SizesAnswer
     ensures { DescribesAs m t generator.old result generator.new }
 {
     let given = codec::describe(m, t, generator);
     sizes_answer(given)
 }
 
-#[unsafe(no_mangle)]
-pub extern "C" fn blentovar_encode(m: usize, t: usize, message: &[u8], word: &mut [u8]) -> Told
+pub fn blentovar_encode(m: usize, t: usize, message: &[u8], word: &mut [u8]) -> Told
     ensures { EncodesAs m t message.now word.old result word.new }
 {
     let outcome = codec::encode(m, t, message, word);
     sheet::tell_outcome(outcome)
 }
 
-#[unsafe(no_mangle)]
-pub extern "C" fn blentovar_decode(
+pub fn blentovar_decode(
     m: usize,
     t: usize,
     received: &[u8],
@@ -252,30 +248,21 @@ pub extern "C" fn blentovar_decode(
     decode_answer(given)
 }
 
-#[unsafe(no_mangle)]
-pub extern "C" fn blentovar_edit(
-    m: usize,
-    t: usize,
-    word: &mut [u8],
-    start: usize,
-    stretch: &[u8],
-) -> Told
+pub fn blentovar_edit(m: usize, t: usize, word: &mut [u8], start: usize, stretch: &[u8]) -> Told
     ensures { EditsAs m t word.old start stretch.now result word.new }
 {
     let outcome = codec::edit(m, t, word, start, stretch);
     sheet::tell_outcome(outcome)
 }
 
-#[unsafe(no_mangle)]
-pub extern "C" fn blentovar_open(m: usize, t: usize, word: &[u8]) -> KeptAnswer
+pub fn blentovar_open(m: usize, t: usize, word: &[u8]) -> KeptAnswer
     ensures { OpensAs m t word.now result }
 {
     let given = kept::open(m, t, word);
     kept_answer(given)
 }
 
-#[unsafe(no_mangle)]
-pub extern "C" fn blentovar_splice(stored: Record, start: usize, stretch: &[u8]) -> KeptAnswer
+pub fn blentovar_splice(stored: Record, start: usize, stretch: &[u8]) -> KeptAnswer
     ensures { SplicesAs stored start stretch.now result }
 {
     let kept = kept_of(stored);
@@ -283,12 +270,7 @@ pub extern "C" fn blentovar_splice(stored: Record, start: usize, stretch: &[u8])
     kept_answer(given)
 }
 
-#[unsafe(no_mangle)]
-pub extern "C" fn blentovar_decode_kept(
-    stored: Record,
-    word: &mut [u8],
-    list: &mut [u16],
-) -> DecodeKeptAnswer
+pub fn blentovar_decode_kept(stored: Record, word: &mut [u8], list: &mut [u16]) -> DecodeKeptAnswer
     ensures { DecodesKeptAs stored word.old list.old result word.new list.new }
 {
     let kept = kept_of(stored);
@@ -296,8 +278,7 @@ pub extern "C" fn blentovar_decode_kept(
     decode_kept_answer(given)
 }
 
-#[unsafe(no_mangle)]
-pub extern "C" fn blentovar_make_frame(house: u16, poll: u16, counter: u64, frame: &mut [u8]) -> u32
+pub fn blentovar_make_frame(house: u16, poll: u16, counter: u64, frame: &mut [u8]) -> u32
     ensures { MakesAs house poll counter frame.old result frame.new }
 {
     let reading = Reading {
@@ -309,32 +290,28 @@ pub extern "C" fn blentovar_make_frame(house: u16, poll: u16, counter: u64, fram
     sheet::outcome_number(outcome)
 }
 
-#[unsafe(no_mangle)]
-pub extern "C" fn blentovar_read_frame(frame: &[u8]) -> ReadAnswer
+pub fn blentovar_read_frame(frame: &[u8]) -> ReadAnswer
     ensures { ReadsAs frame.now result }
 {
     let given = frame::read(frame);
     read_answer(given)
 }
 
-#[unsafe(no_mangle)]
-pub extern "C" fn blentovar_look_at_book(book: &[u8]) -> LookAnswer
+pub fn blentovar_look_at_book(book: &[u8]) -> LookAnswer
     ensures { LooksAs book.now result }
 {
     let given = book::look(book);
     look_answer(given)
 }
 
-#[unsafe(no_mangle)]
-pub extern "C" fn blentovar_read_book(book: &[u8], i: usize) -> PartAnswer
+pub fn blentovar_read_book(book: &[u8], i: usize) -> PartAnswer
     ensures { ReadsBookAs book.now i result }
 {
     let given = book::find(book, i);
     part_answer(given)
 }
 
-#[unsafe(no_mangle)]
-pub extern "C" fn blentovar_write_book(frames: &[u8], book: &mut [u8]) -> u32
+pub fn blentovar_write_book(frames: &[u8], book: &mut [u8]) -> u32
     ensures { WritesBookAs frames.now book.old result book.new }
 {
     let outcome = book::write(frames, book);

@@ -9,7 +9,7 @@ use Rattle.sheet.specs.declared.Outcome.{Outcome}
 use Rattle.sheet.specs.declared.Outcome.TheVariants.{Done}
 use Rattle.sheet.specs.declared.Told.{Told}
 use Rattle.sheet.specs.Number.{outcome_told, outcome_number, struck}
-use Rattle.sheet.proofs.NumberLaws.{outcome_never_struck}
+use Rattle.sheet.proofs.StruckLaws.{outcome_never_struck}
 use Rattle.sheet.proofs.VerdictLaws.{equal, done_passed}
 use Rattle.bits.proofs.BitLaws.{not_bad, zeros_at}
 use Rattle.codes.specs.Look.{code_of, code_verdict}

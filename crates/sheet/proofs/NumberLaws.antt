@@ -102,8 +102,3 @@ outcome_tells (Refused r) (Refused s) e = ap Refused (told_tells e)
 pub outcome_plain : (x : Outcome) → outcome_number x ≢ 5 → outcome_told x ≡ plainly (outcome_number x)
 outcome_plain Done n = refl
 outcome_plain (Refused r) n = plain_but_5 r n
-
--- and no outcome has the struck number
-pub outcome_never_struck : (x : Outcome) → outcome_number x ≢ struck
-outcome_never_struck Done e = omega arith
-outcome_never_struck (Refused r) e = never_struck r e
