@@ -252,7 +252,8 @@ after_opened : {m t : ℕ} {word : List ℕ} {stored after : Kept} (splices : Li
     → Opened word (code_of m t) stored → After stored splices after
     → OpenReady (code_of m t) (resulting word splices) × Opened (resulting word splices) (code_of m t) after
 after_opened {m} {t} {word} [] R O e = (R, subst (Opened word (code_of m t)) e O)
-after_opened (s ∷ splices) R O (x, p, rest) = let (Q, P) = one_splice R O s.0 s.1 p in after_opened splices Q P rest
+after_opened {m} {t} {word} (s ∷ splices) R O (x, p, rest) =
+    let (Q, P) = one_splice R O s.0 s.1 p in after_opened {m = m} {t = t} {word = spliced word (s.0, s.1)} {stored = x.record} splices Q P rest
 
 module _ {m t : ℕ} {word : List ℕ} {x : Answer} {stored : Kept} (splices : List (ℕ × List ℕ)) (o : Opens m t word x) (e : x.outcome ≡ Done)
     (a : After x.record splices stored) where

@@ -19,7 +19,7 @@ use Rattle.demands.proofs.FrameOutcome.{read_one, line_one}
 frame_line_one : (number : ℕ) (frame : List ℕ) {line line' : List ℕ} → LineOf number frame line → LineOf number frame line' → line ≡ line'
 frame_line_one number frame p q = p.is ∙ ap (line_of number) (read_one frame p.reads q.reads) ∙ sym q.is
 
-pub listing_one : {bytes text text' : List ℕ} {first count : ℕ} → Lines bytes first count text → Lines bytes first count text' → text ≡ text'
+pub listing_one : {bytes : List ℕ} {first count : ℕ} {text text' : List ℕ} → Lines bytes first count text → Lines bytes first count text' → text ≡ text'
 listing_one no_line no_line = refl
 listing_one (one_more p a) (one_more q b) = ap₂ ◌++◌ (listing_one p q) (frame_line_one _ _ a b)
 
@@ -66,10 +66,10 @@ frame_after bytes n i =
     let e : 32 * n + 32 * i ≡ 32 * (n + i) = omega arith in
     ap (take 32) (drop-drop (32 * i) (32 * n) bytes ∙ ap (λ (k : ℕ). drop k bytes) e)
 
-lines_after : {bytes text rest : List ℕ} {first n m : ℕ} → Lines bytes first n text → Lines (drop (32 * n) bytes) (first + n) m rest
+lines_after : {bytes text : List ℕ} {first n m : ℕ} {rest : List ℕ} → Lines bytes first n text → Lines (drop (32 * n) bytes) (first + n) m rest
     → Lines bytes first (n + m) (text ++ rest)
 lines_after {text = text} {n = n} p no_line = rw (add-zero n, append-nil text) p
-lines_after {bytes} {text} {first = first} {n} p (one_more {count = m} {text = before} {line = line} q a) =
+lines_after {bytes} {text} {first} {n} p (one_more {count = m} {text = before} {line = line} q a) =
     rw (add-suc n m, ← (append_assoc text before line)) (one_more (lines_after p q) (rw (frame_after bytes n m, add_assoc first n m) at a))
 
 -- a frame that is whole stays as it is when more bytes come
@@ -78,7 +78,7 @@ frame_front bytes more i h =
     ap (take 32) (drop-append-le (32 * i) bytes more (omega arith))
     ∙ take-append-le 32 (drop (32 * i) bytes) more (omega (arith, length-drop (32 * i) bytes))
 
-lines_front : (bytes more : List ℕ) {text : List ℕ} {first n : ℕ} → 32 * n ≤ length bytes → Lines bytes first n text → Lines (bytes ++ more) first n text
+lines_front : (bytes more : List ℕ) {first n : ℕ} {text : List ℕ} → 32 * n ≤ length bytes → Lines bytes first n text → Lines (bytes ++ more) first n text
 lines_front bytes more h no_line = no_line
 lines_front bytes more h (one_more {count = m} p a) =
     one_more (lines_front bytes more (omega arith) p) (rw (← (frame_front bytes more m (omega arith))) at a)
