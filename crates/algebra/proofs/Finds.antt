@@ -63,7 +63,7 @@ module _ (F : Field) (S : Series F.ring) (E : List F.ring.El) (r : ℕ) (agree :
   open F use {ring as K, inverse, one_not_zero}
   open K use {El, 𝟘, 𝟙, ◌⊕◌, ◌⊗◌}
   open series K use {◌⊕◌ as ◌⊕ˢ◌, ◌⊗◌ as ◌⊗ˢ◌}
-  open kept.linked use {ω, γ, M, σ-below, B-below, σ-from, ω-from, B-from, γ-from, makes}
+  open kept.linked use {ω, γ, M, σ_below, B_below, σ_from, ω_from, B_from, γ_from, makes}
 
   infixl 60 ◌⊕◌ ◌⊕ˢ◌
   infixl 70 ◌⊗◌ ◌⊗ˢ◌
@@ -77,10 +77,10 @@ module _ (F : Field) (S : Series F.ring) (E : List F.ring.El) (r : ℕ) (agree :
   Λ_below n h = product_below K r Λ S (power_sums F E) agree n h ∙ ap (λ p. p n) (locator_sums F E)
 
   B_short : EqualBelow K r (s.B ⊗ˢ S) γ
-  B_short n h = B-below n (omega arith) ∙ ap (◌⊕◌ (γ n)) (monomial_below K r n h) ∙ sum-zero K (γ n)
+  B_short n h = B_below n (omega arith) ∙ ap (◌⊕◌ (γ n)) (monomial_below K r n h) ∙ sum-zero K (γ n)
 
   σ_crossed : EqualBelow K r (Ω ⊗ˢ s.σ) (ω ⊗ˢ Λ)
-  σ_crossed = crossed K r S Λ Ω s.σ ω Λ_below σ-below
+  σ_crossed = crossed K r S Λ Ω s.σ ω Λ_below σ_below
 
   -- where the degrees are small enough, what holds below r holds everywhere
   equal_products : (k : ℕ) (p w : Series K) → length E + k ≤ r → EqualBelow K r (p ⊗ˢ S) w → ZeroFrom K (suc k) p → ZeroFrom K k w → Ω ⊗ˢ p ≡ w ⊗ˢ Λ
@@ -93,11 +93,11 @@ module _ (F : Field) (S : Series F.ring) (E : List F.ring.El) (r : ℕ) (agree :
   not_longer : length E < s.L → 𝟙 ≡ 𝟘
   not_longer l =
       sym (locator-one K E) ∙ sym (monomial-product K r Λ) ∙ ap (λ p. p r) split
-      ∙ product_vanishes K r s.B (Ω ⊗ˢ s.σ ⊕ˢ ω ⊗ˢ Λ) kept.B-zero (λ n h. sum_of_equal K _ _ (σ_crossed n h))
+      ∙ product_vanishes K r s.B (Ω ⊗ˢ s.σ ⊕ˢ ω ⊗ˢ Λ) kept.B_zero (λ n h. sum_of_equal K _ _ (σ_crossed n h))
     where
       split : monomial K r ⊗ˢ Λ ≡ s.B ⊗ˢ (Ω ⊗ˢ s.σ ⊕ˢ ω ⊗ˢ Λ)
       split =
-          rw (← makes, pair_shape (series K) s.σ ω s.B γ Λ, ← equal_products M s.B γ (omega arith) B_short B-from γ-from)
+          rw (← makes, pair_shape (series K) s.σ ω s.B γ Λ, ← equal_products M s.B γ (omega arith) B_short B_from γ_from)
           (gather_shape (series K) s.σ s.B Ω (ω ⊗ˢ Λ))
 
   not_long : s.L ≤ length E
@@ -117,55 +117,55 @@ module _ (F : Field) (S : Series F.ring) (E : List F.ring.El) (r : ℕ) (agree :
     crossed-values : value Ω ⊗ value s.σ ≡ value ω ⊗ value Λ
     crossed-values =
         let l : s.L ≤ length E = not_long in
-        sym (multiply Ω s.σ (length E) (suc s.L) (omega arith) (omega arith) (evaluator_from K E) σ-from)
-        ∙ ap (λ p. evaluate K (D + D) p y) (equal_products s.L s.σ ω (omega arith) σ-below σ-from ω-from)
-        ∙ multiply ω Λ s.L (suc (length E)) (omega arith) (omega arith) ω-from (locator_from K E)
+        sym (multiply Ω s.σ (length E) (suc s.L) (omega arith) (omega arith) (evaluator_from K E) σ_from)
+        ∙ ap (λ p. evaluate K (D + D) p y) (equal_products s.L s.σ ω (omega arith) σ_below σ_from ω_from)
+        ∙ multiply ω Λ s.L (suc (length E)) (omega arith) (omega arith) ω_from (locator_from K E)
 
-    made-values : value s.σ ⊗ value γ ⊕ value s.B ⊗ value ω ≡ power K y r
-    made-values =
+    made_values : value s.σ ⊗ value γ ⊕ value s.B ⊗ value ω ≡ power K y r
+    made_values =
         ap₂ ◌⊕◌
-        (sym (multiply s.σ γ (suc s.L) M (omega arith) (omega arith) σ-from γ-from))
-        (sym (multiply s.B ω (suc M) s.L (omega arith) (omega arith) B-from ω-from))
+        (sym (multiply s.σ γ (suc s.L) M (omega arith) (omega arith) σ_from γ_from))
+        (sym (multiply s.B ω (suc M) s.L (omega arith) (omega arith) B_from ω_from))
         ∙ sym (evaluate-sum K (D + D) (s.σ ⊗ˢ γ) (s.B ⊗ˢ ω) y)
         ∙ ap (λ p. evaluate K (D + D) p y) makes
         ∙ evaluate_past K (suc r) (D + D) (monomial K r) y (monomial_from K r) (omega arith)
         ∙ evaluate-monomial K r y
 
     -- σ and ω have no root in common
-    ω-not-zero : y ≢ 𝟘 → value s.σ ≡ 𝟘 → value ω ≢ 𝟘
-    ω-not-zero n h z = power_not_zero F y r n (sym made-values ∙ ap₂ (λ a b. a ⊗ value γ ⊕ value s.B ⊗ b) h z ∙ simp (ring, K))
+    ω_not_zero : y ≢ 𝟘 → value s.σ ≡ 𝟘 → value ω ≢ 𝟘
+    ω_not_zero n h z = power_not_zero F y r n (sym made_values ∙ ap₂ (λ a b. a ⊗ value γ ⊕ value s.B ⊗ b) h z ∙ simp (ring, K))
 
-    root-of-Λ : y ≢ 𝟘 → value s.σ ≡ 𝟘 → value Λ ≡ 𝟘
-    root-of-Λ n h =
-        no_zero_divisor F (value ω) (value Λ) (sym crossed-values ∙ ap (◌⊗◌ (value Ω)) h ∙ product-zero K (value Ω)) (ω-not-zero n h)
+    root_of_Λ : y ≢ 𝟘 → value s.σ ≡ 𝟘 → value Λ ≡ 𝟘
+    root_of_Λ n h =
+        no_zero_divisor F (value ω) (value Λ) (sym crossed-values ∙ ap (◌⊗◌ (value Ω)) h ∙ product-zero K (value Ω)) (ω_not_zero n h)
 
-    root-of-σ : value Λ ≡ 𝟘 → value Ω ≢ 𝟘 → value s.σ ≡ 𝟘
-    root-of-σ h n = no_zero_divisor F (value Ω) (value s.σ) (crossed-values ∙ ap (◌⊗◌ (value ω)) h ∙ product-zero K (value ω)) n
+    root_of_σ : value Λ ≡ 𝟘 → value Ω ≢ 𝟘 → value s.σ ≡ 𝟘
+    root_of_σ h n = no_zero_divisor F (value Ω) (value s.σ) (crossed-values ∙ ap (◌⊗◌ (value ω)) h ∙ product-zero K (value ω)) n
 
     -- the same at the bounds of the lists
-    at-degree : (p : Series K) (a d : ℕ) → ZeroFrom K a p → a ≤ d → a ≤ D → evaluate K d p y ≡ value p
-    at-degree p a d z l m = evaluate_past K a d p y z l ∙ sym (evaluate_past K a D p y z m)
+    at_degree : (p : Series K) (a d : ℕ) → ZeroFrom K a p → a ≤ d → a ≤ D → evaluate K d p y ≡ value p
+    at_degree p a d z l m = evaluate_past K a d p y z l ∙ sym (evaluate_past K a D p y z m)
 
   finds_here : 2 * length E ≤ r → Distinct K E → NonZero F E → Finds F E s
   finds_here fits u n = record { short = not_long; root = root; rooted = rooted }
     where
-      σ-at : (X : El) (d : ℕ) → length E < d → evaluate K d s.σ (inverse X) ≡ value fits (inverse X) s.σ
-      σ-at X d h = at-degree fits (inverse X) s.σ (suc s.L) d σ-from (omega (arith, not_long)) (omega (arith, not_long))
+      σ_at : (X : El) (d : ℕ) → length E < d → evaluate K d s.σ (inverse X) ≡ value fits (inverse X) s.σ
+      σ_at X d h = at_degree fits (inverse X) s.σ (suc s.L) d σ_from (omega (arith, not_long)) (omega (arith, not_long))
 
-      Λ-at : (X : El) → evaluate K (suc (length E)) Λ (inverse X) ≡ value fits (inverse X) Λ
-      Λ-at X = at-degree fits (inverse X) Λ (suc (length E)) (suc (length E)) (locator_from K E) (omega arith) (omega arith)
+      Λ_at : (X : El) → evaluate K (suc (length E)) Λ (inverse X) ≡ value fits (inverse X) Λ
+      Λ_at X = at_degree fits (inverse X) Λ (suc (length E)) (suc (length E)) (locator_from K E) (omega arith) (omega arith)
 
-      Ω-at : (X : El) → evaluate K (length E) Ω (inverse X) ≡ value fits (inverse X) Ω
-      Ω-at X = at-degree fits (inverse X) Ω (length E) (length E) (evaluator_from K E) (omega arith) (omega arith)
+      Ω_at : (X : El) → evaluate K (length E) Ω (inverse X) ≡ value fits (inverse X) Ω
+      Ω_at X = at_degree fits (inverse X) Ω (length E) (length E) (evaluator_from K E) (omega arith) (omega arith)
 
       root : (X : El) → X ≢ 𝟘 → (d : ℕ) → length E < d → evaluate K d s.σ (inverse X) ≡ 𝟘 → Memᴰ X E
       root X x d h e =
-          locator_root F X E x (Λ-at X ∙ root-of-Λ fits (inverse X) (inverse_not_zero F X x) (sym (σ-at X d h) ∙ e))
+          locator_root F X E x (Λ_at X ∙ root_of_Λ fits (inverse X) (inverse_not_zero F X x) (sym (σ_at X d h) ∙ e))
 
       rooted : (X : El) → Memᴰ X E → (d : ℕ) → length E < d → evaluate K d s.σ (inverse X) ≡ 𝟘
       rooted X m d h =
-          σ-at X d h
-          ∙ root-of-σ fits (inverse X) (sym (Λ-at X) ∙ locator_rooted F X E (n X m) m) (λ z. evaluator_not_zero F X E u n m (Ω-at X ∙ z))
+          σ_at X d h
+          ∙ root_of_σ fits (inverse X) (sym (Λ_at X) ∙ locator_rooted F X E (n X m) m) (λ z. evaluator_not_zero F X E u n m (Ω_at X ∙ z))
 
 module _ (F : Field) where
   open F use {ring as K}

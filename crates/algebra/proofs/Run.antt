@@ -119,24 +119,24 @@ module _ (F : Field) (S : Series F.ring) where
     pub γ : Series K
     pub M : ℕ
     pub lengths : s.L + M ≡ suc r
-    pub σ-below : EqualBelow K k (s.σ ⊗ˢ S) ω
-    pub B-below : EqualBelow K (suc r) (s.B ⊗ˢ S) (γ ⊕ˢ monomial K r)
-    pub σ-from : ZeroFrom K (suc s.L) s.σ
-    pub ω-from : ZeroFrom K s.L ω
-    pub B-from : ZeroFrom K (suc M) s.B
-    pub γ-from : ZeroFrom K M γ
-    pub σ-one : s.σ zero ≡ 𝟙
+    pub σ_below : EqualBelow K k (s.σ ⊗ˢ S) ω
+    pub B_below : EqualBelow K (suc r) (s.B ⊗ˢ S) (γ ⊕ˢ monomial K r)
+    pub σ_from : ZeroFrom K (suc s.L) s.σ
+    pub ω_from : ZeroFrom K s.L ω
+    pub B_from : ZeroFrom K (suc M) s.B
+    pub γ_from : ZeroFrom K M γ
+    pub σ_one : s.σ zero ≡ 𝟙
     pub makes : s.σ ⊗ˢ γ ⊕ˢ s.B ⊗ˢ ω ≡ monomial K r
 
   -- the invariant after r steps
   pub record Kept (r : ℕ) (s : State F) : Type 0 where
     pub linked : Linked r r s
-    pub B-zero : s.B zero ≡ 𝟘
+    pub B_zero : s.B zero ≡ 𝟘
     pub short : s.L ≤ r
 
   -- B moves on
   advance : (r : ℕ) (s : State F) → Linked (suc r) r s → Kept (suc r) (passed F s)
-  advance r s l = record { linked = moved; B-zero = shift_zero K s.B; short = omega arith }
+  advance r s l = record { linked = moved; B_zero = shift_zero K s.B; short = omega arith }
     where
       moved : Linked (suc r) (suc r) (passed F s)
       moved =
@@ -145,60 +145,60 @@ module _ (F : Field) (S : Series F.ring) where
             γ = shift K l.γ;
             M = suc l.M;
             lengths = omega arith;
-            σ-below = l.σ-below;
-            B-below = shifts K S r s.B l.γ l.B-below;
-            σ-from = l.σ-from;
-            ω-from = l.ω-from;
-            B-from = Degree.zero_from_shift K (suc l.M) s.B l.B-from;
-            γ-from = Degree.zero_from_shift K l.M l.γ l.γ-from;
-            σ-one = l.σ-one;
+            σ_below = l.σ_below;
+            B_below = shifts K S r s.B l.γ l.B_below;
+            σ_from = l.σ_from;
+            ω_from = l.ω_from;
+            B_from = Degree.zero_from_shift K (suc l.M) s.B l.B_from;
+            γ_from = Degree.zero_from_shift K l.M l.γ l.γ_from;
+            σ_one = l.σ_one;
             makes = rw (monomial-suc K r) (shifted_makes K s.σ l.ω s.B l.γ ∙ ap (shift K) l.makes);
           }
 
   module _ (r : ℕ) (s : State F) (kept : Kept r s) where
-    open kept.linked use {ω, γ, M, lengths, σ-below, B-below, σ-from, ω-from, B-from, γ-from, σ-one, makes}
-    open kept use {B-zero, short}
+    open kept.linked use {ω, γ, M, lengths, σ_below, B_below, σ_from, ω_from, B_from, γ_from, σ_one, makes}
+    open kept use {B_zero, short}
 
     -- by how much σ S misses at r
     abbrev d : El
     d = discrepancy F S r s
 
     misses : EqualBelow K (suc r) (s.σ ⊗ˢ S) (ω ⊕ˢ scale K d (monomial K r))
-    misses = missed K S r s.σ ω σ-below (ω-from r short)
+    misses = missed K S r s.σ ω σ_below (ω_from r short)
 
     -- σ mended, and its ω, with any bound that holds for both parts
-    mended-below : EqualBelow K (suc r) (mended F d s ⊗ˢ S) (ω ⊕ˢ scale K d γ)
-    mended-below = mends K S (suc r) d s.σ ω s.B γ (monomial K r) misses B-below
+    mended_below : EqualBelow K (suc r) (mended F d s ⊗ˢ S) (ω ⊕ˢ scale K d γ)
+    mended_below = mends K S (suc r) d s.σ ω s.B γ (monomial K r) misses B_below
 
-    mended-one : mended F d s zero ≡ 𝟙
-    mended-one = ap₂ (λ x y. x ⊕ d ⊗ y) σ-one B-zero ∙ sym (unmissed K 𝟙 d)
+    mended_one : mended F d s zero ≡ 𝟙
+    mended_one = ap₂ (λ x y. x ⊕ d ⊗ y) σ_one B_zero ∙ sym (unmissed K 𝟙 d)
 
-    mended-from : (k : ℕ) → s.L ≤ k → M ≤ k → ZeroFrom K (suc k) (mended F d s)
-    mended-from k l m =
+    mended_from : (k : ℕ) → s.L ≤ k → M ≤ k → ZeroFrom K (suc k) (mended F d s)
+    mended_from k l m =
         Degree.zero_from_sum K (suc k) s.σ (scale K d s.B)
-        (Degree.zero_from_weaken K s.σ (suc s.L) (suc k) (omega arith) σ-from)
-        (Degree.zero_from_scale K (suc k) d s.B (Degree.zero_from_weaken K s.B (suc M) (suc k) (omega arith) B-from))
+        (Degree.zero_from_weaken K s.σ (suc s.L) (suc k) (omega arith) σ_from)
+        (Degree.zero_from_scale K (suc k) d s.B (Degree.zero_from_weaken K s.B (suc M) (suc k) (omega arith) B_from))
 
-    mended-ω-from : (k : ℕ) → s.L ≤ k → M ≤ k → ZeroFrom K k (ω ⊕ˢ scale K d γ)
-    mended-ω-from k l m =
+    mended_ω_from : (k : ℕ) → s.L ≤ k → M ≤ k → ZeroFrom K k (ω ⊕ˢ scale K d γ)
+    mended_ω_from k l m =
         Degree.zero_from_sum K k ω (scale K d γ)
-        (Degree.zero_from_weaken K ω s.L k l ω-from)
-        (Degree.zero_from_scale K k d γ (Degree.zero_from_weaken K γ M k m γ-from))
+        (Degree.zero_from_weaken K ω s.L k l ω_from)
+        (Degree.zero_from_scale K k d γ (Degree.zero_from_weaken K γ M k m γ_from))
 
-    nothing-missed : d ≡ 𝟘 → Linked (suc r) r s
-    nothing-missed h =
+    nothing_missed : d ≡ 𝟘 → Linked (suc r) r s
+    nothing_missed h =
         record {
           ω = ω;
           γ = γ;
           M = M;
           lengths = lengths;
-          σ-below = Degree.below_extend K r (s.σ ⊗ˢ S) ω σ-below (h ∙ sym (ω-from r short));
-          B-below = B-below;
-          σ-from = σ-from;
-          ω-from = ω-from;
-          B-from = B-from;
-          γ-from = γ-from;
-          σ-one = σ-one;
+          σ_below = Degree.below_extend K r (s.σ ⊗ˢ S) ω σ_below (h ∙ sym (ω_from r short));
+          B_below = B_below;
+          σ_from = σ_from;
+          ω_from = ω_from;
+          B_from = B_from;
+          γ_from = γ_from;
+          σ_one = σ_one;
           makes = makes;
         }
 
@@ -210,13 +210,13 @@ module _ (F : Field) (S : Series F.ring) where
           γ = γ;
           M = M;
           lengths = lengths;
-          σ-below = mended-below;
-          B-below = B-below;
-          σ-from = mended-from s.L (omega arith) (omega arith);
-          ω-from = mended-ω-from s.L (omega arith) (omega arith);
-          B-from = B-from;
-          γ-from = γ-from;
-          σ-one = mended-one;
+          σ_below = mended_below;
+          B_below = B_below;
+          σ_from = mended_from s.L (omega arith) (omega arith);
+          ω_from = mended_ω_from s.L (omega arith) (omega arith);
+          B_from = B_from;
+          γ_from = γ_from;
+          σ_one = mended_one;
           makes = mended_makes K d s.σ ω s.B γ ∙ makes;
         }
 
@@ -228,37 +228,37 @@ module _ (F : Field) (S : Series F.ring) where
           γ = scale K (inverse d) ω;
           M = s.L;
           lengths = omega arith;
-          σ-below = mended-below;
-          B-below = renews K S (suc r) d (inverse d) s.σ ω (monomial K r) (inverse-product F d n) misses;
-          σ-from = mended-from (suc r - s.L) (omega arith) (omega arith);
-          ω-from = mended-ω-from (suc r - s.L) (omega arith) (omega arith);
-          B-from = Degree.zero_from_scale K (suc s.L) (inverse d) s.σ σ-from;
-          γ-from = Degree.zero_from_scale K s.L (inverse d) ω ω-from;
-          σ-one = mended-one;
+          σ_below = mended_below;
+          B_below = renews K S (suc r) d (inverse d) s.σ ω (monomial K r) (inverse-product F d n) misses;
+          σ_from = mended_from (suc r - s.L) (omega arith) (omega arith);
+          ω_from = mended_ω_from (suc r - s.L) (omega arith) (omega arith);
+          B_from = Degree.zero_from_scale K (suc s.L) (inverse d) s.σ σ_from;
+          γ_from = Degree.zero_from_scale K s.L (inverse d) ω ω_from;
+          σ_one = mended_one;
           makes = renewed_makes K d (inverse d) s.σ ω s.B γ (inverse-product F d n) ∙ makes;
         }
 
-    corrected-keeps : (b : Bool) → (T b → 2 * s.L ≤ r) → (T (not b) → r < 2 * s.L) → d ≢ 𝟘 → Kept (suc r) (corrected F b d r s)
-    corrected-keeps true t f n = advance r _ (grows n (t tt))
-    corrected-keeps false t f n = advance r _ (stays (f tt))
+    corrected_keeps : (b : Bool) → (T b → 2 * s.L ≤ r) → (T (not b) → r < 2 * s.L) → d ≢ 𝟘 → Kept (suc r) (corrected F b d r s)
+    corrected_keeps true t f n = advance r _ (grows n (t tt))
+    corrected_keeps false t f n = advance r _ (stays (f tt))
 
-    step-by-keeps : (e : Dec (d ≡ 𝟘)) → Kept (suc r) (step_by F d e r s)
-    step-by-keeps (yes h) = advance r s (nothing-missed h)
-    step-by-keeps (no h) = corrected-keeps (leb (2 * s.L) r) (leb→le (2 * s.L) r) (nleb→lt (2 * s.L) r) h
+    step_by_keeps : (e : Dec (d ≡ 𝟘)) → Kept (suc r) (step_by F d e r s)
+    step_by_keeps (yes h) = advance r s (nothing_missed h)
+    step_by_keeps (no h) = corrected_keeps (leb (2 * s.L) r) (leb→le (2 * s.L) r) (nleb→lt (2 * s.L) r) h
 
   pub step_is : (r : ℕ) (s : State F) → step F S r s ≡ step_by F (discrepancy F S r s) (zero? (discrepancy F S r s)) r s
   unfolding step
   step_is r s = refl
 
   pub step_keeps : (r : ℕ) (s : State F) → Kept r s → Kept (suc r) (step F S r s)
-  step_keeps r s k = rw (step_is r s) (step-by-keeps r s k (zero? (discrepancy F S r s)))
+  step_keeps r s k = rw (step_is r s) (step_by_keeps r s k (zero? (discrepancy F S r s)))
 
   start_below : EqualBelow K (suc zero) (shift K (one_series K) ⊗ˢ S) (one_series K ⊕ˢ monomial K zero)
   start_below zero h = rw (shift-product K (one_series K) S, shift_zero K (one_series K ⊗ˢ S), monomial-zero K) (sym (sum_self K _))
   start_below (suc n) h = absurd (omega arith)
 
   start_keeps : Kept zero (start F)
-  start_keeps = record { linked = linked; B-zero = shift_zero K (one_series K); short = omega arith }
+  start_keeps = record { linked = linked; B_zero = shift_zero K (one_series K); short = omega arith }
     where
       linked : Linked zero zero (start F)
       linked =
@@ -267,13 +267,13 @@ module _ (F : Field) (S : Series F.ring) where
             γ = one_series K;
             M = suc zero;
             lengths = omega arith;
-            σ-below = λ n h. absurd (omega arith);
-            B-below = start_below;
-            σ-from = Degree.one_from K;
-            ω-from = λ n h. refl;
-            B-from = Degree.zero_from_shift K (suc zero) (one_series K) (Degree.one_from K);
-            γ-from = Degree.one_from K;
-            σ-one = one-zero K;
+            σ_below = λ n h. absurd (omega arith);
+            B_below = start_below;
+            σ_from = Degree.one_from K;
+            ω_from = λ n h. refl;
+            B_from = Degree.zero_from_shift K (suc zero) (one_series K) (Degree.one_from K);
+            γ_from = Degree.one_from K;
+            σ_one = one-zero K;
             makes = rw (monomial-zero K) (start_makes (series K) (shift K (one_series K)));
           }
 
@@ -290,7 +290,7 @@ module _ (F : Field) (S : Series F.ring) where
   run_keeps (suc r) = rw (run-suc r) (step_keeps r (run F S r) (run_keeps r))
 
   pub run_degree : (r : ℕ) → ZeroFrom K (suc (run F S r).L) (run F S r).σ
-  run_degree r = (run_keeps r).linked.σ-from
+  run_degree r = (run_keeps r).linked.σ_from
 
   pub run_length : (r : ℕ) → (run F S r).L ≤ r
   run_length r = (run_keeps r).short

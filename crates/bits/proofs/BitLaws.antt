@@ -160,7 +160,7 @@ added_twice (x ∷ xs) (y ∷ ys) b c =
 pub added_back : (xs ys : List ℕ) → length xs ≡ length ys → AreBits xs → AreBits ys → added xs (added xs ys) ≡ ys
 added_back xs ys h b c = added_comm xs (added xs ys) (sym (length-added xs ys)) ∙ ap (λ zs. added zs xs) (added_comm xs ys h) ∙ added_twice ys xs c b
 
--- addedAt
+-- added_at
 
 pub added_at-zero : (xs ys : List ℕ) → added_at xs 0 ys ≡ added xs ys
 unfolding added_at
@@ -270,7 +270,7 @@ unfolding flipped
 bits_flipped [] b = b
 bits_flipped {xs = xs} (p ∷ ps) b = bits_flipped {xs = flip xs p} ps (bits_flip p b)
 
--- productBits
+-- product_bits
 
 pub product-nil : (ys : List ℕ) → product_bits [] ys ≡ replicate (length ys) 0
 unfolding product_bits
@@ -305,7 +305,7 @@ bits_product {xs = []} {ys} b c = rw (product-nil ys) (bits_replicate (length ys
 bits_product {xs = x ∷ xs} {ys} b c =
     rw (product-cons x xs ys) (bits_added (bits_cons (omega arith) (bits_product (bits_tail b) c)) (bits_times (bits_head b) c))
 
--- firstAbove
+-- first_above
 
 pub first_above-nil : first_above [] ≡ 0
 unfolding first_above

@@ -163,18 +163,18 @@ module _ {m t : ℕ} {checks : Code → List Check} {look : Look} where
 
   module _ {L : Type 0} {Does : Code → Outcome → L → Type 0} {stays : L} where
     -- an operation whose checks have passed, and one that they refuse
-    pub on-passed : {c : Code} {answer : Outcome} {left : L} → look ≡ Passes c → Checked m t checks look → Does c answer left
+    pub on_passed : {c : Code} {answer : Outcome} {left : L} → look ≡ Passes c → Checked m t checks look → Does c answer left
         → CodePromise m t checks Does stays answer left
-    on-passed {c} {answer} {left} e l d =
+    on_passed {c} {answer} {left} e l d =
         let (is, p, z) = passed_past e l in
         record { promise = does z (subst (λ (x : Code). Does x answer left) is d) }
 
-    pub on-refused-as : {r : Refusal} {answer : Outcome} {left : L} → look ≡ Refuses r → Checked m t checks look → answer ≡ Refused r → left ≡ stays
+    pub on_refused_as : {r : Refusal} {answer : Outcome} {left : L} → look ≡ Refuses r → Checked m t checks look → answer ≡ Refused r → left ≡ stays
         → CodePromise m t checks Does stays answer left
-    on-refused-as e l a s = record { promise = refuses_as (refuses_is (code_verdict m t checks) (code_of m t) (sym e ∙ l.is)) a s }
+    on_refused_as e l a s = record { promise = refuses_as (refuses_is (code_verdict m t checks) (code_of m t) (sym e ∙ l.is)) a s }
 
-    pub on-refused : {r : Refusal} → look ≡ Refuses r → Checked m t checks look → CodePromise m t checks Does stays (Refused r) stays
-    on-refused e l = on-refused-as e l refl refl
+    pub on_refused : {r : Refusal} → look ≡ Refuses r → Checked m t checks look → CodePromise m t checks Does stays (Refused r) stays
+    on_refused e l = on_refused_as e l refl refl
 
 -- a check of lent bits names the place that was found
 pub names_place : (buffer : ℕ) {found place : ℕ} → place ≡ found → Refused (BitAboveOne buffer found) ≡ Refused (BitAboveOne buffer place)

@@ -64,7 +64,7 @@ pub k_of_row : (m t : ℕ) → k_of m t ≡ get_or ks (row_of m t) 0
 unfolding k_of
 k_of_row m t = refl
 
--- what rowFrom finds among the rows from r up to, not including, r + left
+-- what row_from finds among the rows from r up to, not including, r + left
 record Searched (left r t row : ℕ) : Type 0 where
   from : r ≤ row
   has : row < r + left → get_or ts row 0 ≡ t

@@ -44,12 +44,12 @@ module _ {m : ℕ} (L : IsField m) where
       ones : List ℕ
       ones = replicate (n_of m) 1
 
-      not-one : 1 ⊕ power m a j ≢ 0
-      not-one e = a_order_least L j l h (sym (equal_of_sum e))
+      not_one : 1 ⊕ power m a j ≢ 0
+      not_one e = a_order_least L j l h (sym (equal_of_sum e))
 
       pick : Dec (sum_of m j ones ≡ 0) → sum_of m j ones ≡ 0
       pick (yes e) = e
       pick (no e) =
           absurd (no_zero_divisors L (1 ⊕ power m a j) (sum_of m j ones) (sum_bound m (one_bound L) (power_bound L a j))
-          (sum_bounded L j ones (bits_ones (n_of m))) not-one e
+          (sum_bounded L j ones (bits_ones (n_of m))) not_one e
           (sum_row j (n_of m) ∙ ap (λ z. 1 ⊕ z) (power_rounds L j) ∙ sum_self 1))

@@ -81,8 +81,8 @@ module _ {m : ℕ} (L : IsField m) where
       bits : ℕ → Element m
       bits k = element (get_or xs k 0) (omega (arith, b.at k, one_bound L))
 
-      at-root : (y : Element m) → Memᴰ y (map point rs) → Series.evaluate (ring_of m L) d bits y ≡ (ring_of m L).𝟘
-      at-root y k =
+      at_root : (y : Element m) → Memᴰ y (map point rs) → Series.evaluate (ring_of m L) d bits y ≡ (ring_of m L).𝟘
+      at_root y k =
           let (i, l, e) = points_place y rs k in
           el_path (evaluate_word (get_or rs i 0) d bits y xs b (λ k. refl) z e ∙ h i (omega arith))
 
@@ -91,27 +91,27 @@ module _ {m : ℕ} (L : IsField m) where
       pick (no l) =
           fst_path (vanishing (field m L) d bits (map point rs)
           (points_distinct rs (λ i j u v. differ i j u (omega arith)) (λ i u. below i (omega arith)))
-          (length-map rs point ∙ long) at-root i (omega arith))
+          (length-map rs point ∙ long) at_root i (omega arith))
 
   module _ {t d : ℕ} {rs : List ℕ} (R : Roots m t d rs) where
     root_below : (i : ℕ) → i < d → get_or rs i 0 < n_of m
     root_below i l = rw (← (R.residue i l).is) (mod-lt _ (omega (arith, eight_bound L)))
 
     -- the sums that are 0 for 1 to 2t are 0 at every root
-    root-sum : (xs : List ℕ) → AreBits xs → ((j : ℕ) → 1 ≤ j → j ≤ 2 * t → sum_of m j xs ≡ 0) → (i : ℕ) → i < d → sum_of m (get_or rs i 0) xs ≡ 0
-    root-sum xs b h i l =
+    root_sum : (xs : List ℕ) → AreBits xs → ((j : ℕ) → 1 ≤ j → j ≤ 2 * t → sum_of m j xs ≡ 0) → (i : ℕ) → i < d → sum_of m (get_or rs i 0) xs ≡ 0
+    root_sum xs b h i l =
         let r = R.residue i l in
         rw (← r.is) (sum_class L r.i r.j xs b (h r.i r.least r.most))
 
     -- d bits whose sums are 0 for 1 to 2t are all 0
     pub only_zero : (xs : List ℕ) → AreBits xs → ((i : ℕ) → d ≤ i → get_or xs i 0 ≡ 0) → ((j : ℕ) → 1 ≤ j → j ≤ 2 * t → sum_of m j xs ≡ 0)
         → (i : ℕ) → get_or xs i 0 ≡ 0
-    only_zero xs b z h = zero_by_roots d rs R.long R.differ root_below xs b z (root-sum xs b h)
+    only_zero xs b z h = zero_by_roots d rs R.long R.differ root_below xs b z (root_sum xs b h)
 
     -- two words that agree from place d on, with the same sums
-    pub same-words : (xs ys : List ℕ) → AreBits xs → AreBits ys → length xs ≡ length ys → ((i : ℕ) → d ≤ i → get_or xs i 0 ≡ get_or ys i 0)
+    pub same_words : (xs ys : List ℕ) → AreBits xs → AreBits ys → length xs ≡ length ys → ((i : ℕ) → d ≤ i → get_or xs i 0 ≡ get_or ys i 0)
         → ((j : ℕ) → 1 ≤ j → j ≤ 2 * t → sum_of m j xs ≡ 0) → ((j : ℕ) → 1 ≤ j → j ≤ 2 * t → sum_of m j ys ≡ 0) → xs ≡ ys
-    same-words xs ys b c e z h k =
+    same_words xs ys b c e z h k =
         ext_get_or 0 xs ys e
         (λ i l. equal_of_sum
         (sym (at i)
@@ -122,8 +122,8 @@ module _ {m : ℕ} (L : IsField m) where
         at : (i : ℕ) → get_or (added xs ys) i 0 ≡ get_or xs i 0 ⊕ get_or ys i 0
         at = added_place xs ys (omega arith)
 
-    pub one-code-word : (c w : List ℕ) → CodeWord m t c → CodeWord m t w → ((i : ℕ) → d ≤ i → get_or c i 0 ≡ get_or w i 0) → c ≡ w
-    one-code-word c w C W z = same-words c w C.bits W.bits (C.long ∙ sym W.long) z C.sums W.sums
+    pub one_code_word : (c w : List ℕ) → CodeWord m t c → CodeWord m t w → ((i : ℕ) → d ≤ i → get_or c i 0 ≡ get_or w i 0) → c ≡ w
+    one_code_word c w C W z = same_words c w C.bits W.bits (C.long ∙ sym W.long) z C.sums W.sums
 
 -- d different residues of t, for users of the root bound
 pub roots_of_row : {m r : ℕ} → RowOf m r → (rs : List ℕ) × Roots m (get_or ts r 0) (n_of m - get_or ks r 0) rs

@@ -122,10 +122,10 @@ edit_tells : {m t start : ℕ} {lent stretch left : List ℕ} {x : Outcome} → 
     → TellsOf (lent ∷ stretch ∷ []) (outcome_told x)
 edit_tells {m} {t} {start} {lent} {stretch} p =
     told_by (lent ∷ stretch ∷ []) m t (edit_checks lent start stretch (code_of m t))
-    (other tt, λ z. (other tt, λ z. (λ e. bad (first lent (stretch ∷ []) e), in-stretch))) (answer_is p.promise)
+    (other tt, λ z. (other tt, λ z. (λ e. bad (first lent (stretch ∷ []) e), in_stretch))) (answer_is p.promise)
   where
-    in-stretch : has_bad_bit lent ≡ false → Each (Names (lent ∷ stretch ∷ [])) (has_bad_bit stretch ⇒ BitAboveOne 1 (first_above stretch) ∷ [])
-    in-stretch good = (λ e. bad (second lent stretch (bits_of_not_bad lent good) e), λ z. tt)
+    in_stretch : has_bad_bit lent ≡ false → Each (Names (lent ∷ stretch ∷ [])) (has_bad_bit stretch ⇒ BitAboveOne 1 (first_above stretch) ∷ [])
+    in_stretch good = (λ e. bad (second lent stretch (bits_of_not_bad lent good) e), λ z. tt)
 
 open_tells : {m t : ℕ} {word : List ℕ} {x : Answer} → Opens m t word x → TellsOf (word ∷ []) (outcome_told x.outcome)
 open_tells {m} {t} {word} p =

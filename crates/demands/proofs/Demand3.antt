@@ -187,14 +187,14 @@ module _ {m t : ℕ} {word : List ℕ} {stored : Kept} (R : OpenReady (code_of m
     ready : SpliceReady (kept_code stored) stored start stretch
     ready = splice_accepted stored start stretch z
 
-    ends-in-time : runs_past start (length stretch) (length word) ≡ false
-    ends-in-time = same_end ∙ le-ltb (n_of stored.m) (start + length stretch) ready.ends
+    ends_in_time : runs_past start (length stretch) (length word) ≡ false
+    ends_in_time = same_end ∙ le-ltb (n_of stored.m) (start + length stretch) ready.ends
 
     fits_in : start + length stretch ≤ length word
     fits_in = omega (arith, ready.ends, R.long, ap n_of O.m_is)
 
-    pasted-ready : OpenReady (code_of m t) (paste word start stretch (length stretch))
-    pasted-ready =
+    pasted_ready : OpenReady (code_of m t) (paste word start stretch (length stretch))
+    pasted_ready =
         record {
           known = R.known;
           long = length-paste word start stretch (length stretch) fits_in (omega arith) ∙ R.long;
@@ -202,9 +202,9 @@ module _ {m t : ℕ} {word : List ℕ} {stored : Kept} (R : OpenReady (code_of m
         }
 
     -- and then the record is the one opened with the stretch pasted in
-    pasted-opened : {after : Kept} → Spliced (kept_code stored) stored start stretch after
+    pasted_opened : {after : Kept} → Spliced (kept_code stored) stored start stretch after
         → Opened (paste word start stretch (length stretch)) (code_of m t) after
-    pasted-opened {after} S =
+    pasted_opened {after} S =
         record {
           m_is = S.m_is ∙ O.m_is;
           t_is = S.t_is ∙ O.t_is;
@@ -229,7 +229,7 @@ module _ {m t : ℕ} {word : List ℕ} {stored : Kept} (R : OpenReady (code_of m
         kept : kept_word after ≡ paste word start stretch (length stretch)
         kept =
             ap₂ (λ (x : ℕ) (xs : List ℕ). take (n_of x) xs) (S.m_is ∙ O.m_is) bits
-            ∙ take_at (paste word start stretch (length stretch)) (replicate (1023 - n_of m) 0) (n_of m) pasted-ready.long
+            ∙ take_at (paste word start stretch (length stretch)) (replicate (1023 - n_of m) 0) (n_of m) pasted_ready.long
 
   -- accepted or refused, the record is the one opened with the bits that result
   one_splice : {x : Answer} → Splices stored start stretch x
@@ -242,9 +242,9 @@ module _ {m t : ℕ} {word : List ℕ} {stored : Kept} (R : OpenReady (code_of m
       pick : (past bad : Bool) → runs_past start (length stretch) (length word) ≡ past → has_bad_bit stretch ≡ bad
           → OpenReady (code_of m t) (cond (past || bad) word (paste word start stretch (length stretch)))
           × Opened (cond (past || bad) word (paste word start stretch (length stretch))) (code_of m t) x.record
-      pick true bad e f = as_it_was (λ z. true≢false (sym e ∙ ends-in-time z))
+      pick true bad e f = as_it_was (λ z. true≢false (sym e ∙ ends_in_time z))
       pick false true e f = as_it_was (λ z. true≢false (sym f ∙ not_bad (ready z).bits))
-      pick false false e f = let z = accepted e f in (pasted-ready z, pasted-opened z (p.promise.done z).did)
+      pick false false e f = let z = accepted e f in (pasted_ready z, pasted_opened z (p.promise.done z).did)
 
 -- after any splices
 
@@ -285,5 +285,5 @@ module _ {m t : ℕ} {word : List ℕ} {x : Answer} {stored : Kept} (splices : L
       let S = p.promise.done z in
       let long = length-paste (resulting word splices) 0 stretch (length stretch) (omega arith) (omega arith) in
       let whole = copied_whole (resulting word splices) stretch (paste (resulting word splices) 0 stretch (length stretch)) (sym same) long refl in
-      let P = subst (λ (w : List ℕ). Opened w (code_of m t) y.record) whole (pasted-opened R O 0 stretch z S.did) in
+      let P = subst (λ (w : List ℕ). Opened w (code_of m t) y.record) whole (pasted_opened R O 0 stretch z S.did) in
       answer_same (S.is_done ∙ sym (q.promise.done b).is_done, opened_one P (q.promise.done b).did)

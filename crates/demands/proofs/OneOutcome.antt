@@ -16,7 +16,7 @@ use Rattle.codes.specs.Work.{Known}
 use Rattle.codes.proofs.LookLaws.{known_listed}
 use Rattle.codes.proofs.CheckLaws.{past, code_one}
 use Rattle.codes.proofs.Rows.{row_facts}
-use Rattle.codes.proofs.Unique.{Roots, one-code-word, roots_of_row}
+use Rattle.codes.proofs.Unique.{Roots, one_code_word, roots_of_row}
 use Rattle.generator.proofs.GeneratorLaws.{one_generator}
 use Rattle.codec.specs.declared.describing.Described.{Described}
 use Rattle.codec.specs.Sizes.{GivesSizes, SizesGiven, SizesOf}
@@ -83,7 +83,7 @@ same_top {m} {t} {k} {message} {c} {d} h a b i l = pick (dec_lt i (n_of m))
 pub encoding_one : {m t k : ℕ} {message c d : List ℕ} → ListedCode m k t → Encoding m t k message c → Encoding m t k message d → c ≡ d
 encoding_one {m} {t} {k} {message} {c} {d} L a b =
     let f = row_facts L.of_m in
-    one-code-word L.of_m.listed (roots L).1 c d a.code_word b.code_word (same_top (omega (arith, f.falling, f.within, L.is_k)) a b)
+    one_code_word L.of_m.listed (roots L).1 c d a.code_word b.code_word (same_top (omega (arith, f.falling, f.within, L.is_k)) a b)
 
 pub encode_one : {m t : ℕ} {message lent left left' : List ℕ} {x y : Outcome} → Encodes m t message lent x left → Encodes m t message lent y left'
     → (x ≡ y) × (left ≡ left')

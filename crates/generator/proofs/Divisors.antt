@@ -52,13 +52,13 @@ pub divisors_same : {e : ℕ} {g q r : List ℕ} (h : List ℕ) → HasDegree e 
     → ((i : ℕ) → get_or g i 0 ≡ get_or (product_bits r h) i 0) → (i : ℕ) → get_or h i 0 ≡ get_or g i 0
 divisors_same {e} {g} {q} {r} h E Q R a b = pick (of_some_degree q Q) (of_some_degree r R)
   where
-    not-zero : get_or g e 0 ≡ 0 → ⊥
-    not-zero z = omega (arith, E.top)
+    not_zero : get_or g e 0 ≡ 0 → ⊥
+    not_zero z = omega (arith, E.top)
 
     pick : ((i : ℕ) → get_or q i 0 ≡ 0) ⊎ ((d : ℕ) × HasDegree d q) → ((i : ℕ) → get_or r i 0 ≡ 0) ⊎ ((d : ℕ) × HasDegree d r)
         → (i : ℕ) → get_or h i 0 ≡ get_or g i 0
-    pick (inl z) y = absurd (not-zero (b e ∙ none_product r h (λ i. a i ∙ product_none q g z i) e))
-    pick (inr x) (inl z) = absurd (not-zero (b e ∙ product_none r h z e))
+    pick (inl z) y = absurd (not_zero (b e ∙ none_product r h (λ i. a i ∙ product_none q g z i) e))
+    pick (inr x) (inl z) = absurd (not_zero (b e ∙ product_none r h z e))
     pick (inr (c, C)) (inr (f, F)) =
         let H = same_degree h a (product_degree C E) in
         let G = same_degree g b (product_degree F H) in

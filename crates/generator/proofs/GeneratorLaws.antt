@@ -16,7 +16,7 @@ use Rattle.codes.specs.Rows.{RowOf, before_k, before_t}
 use Rattle.codes.specs.Sums.{sum_of}
 use Rattle.codes.proofs.Rows.{RowBefore, at_first, after, row_before, row_facts, smaller_class}
 use Rattle.codes.proofs.SumLaws.{sum_same, sum_class}
-use Rattle.codes.proofs.Unique.{Roots, same-words, roots_of_row}
+use Rattle.codes.proofs.Unique.{Roots, same_words, roots_of_row}
 use Rattle.generator.specs.Generator.{Generator}
 use Rattle.generator.specs.Factors.{minimal_of, product_of, generator_of}
 use Rattle.generator.proofs.Multiple.{sum-product}
@@ -103,7 +103,7 @@ generated {m} {r} w =
 
 module _ {m : ℕ} (L : IsField m) {t d : ℕ} {rs : List ℕ} (R : Roots m t d rs) where
   pub one_generator : (g h : List ℕ) → Generator m t d g → Generator m t d h → g ≡ h
-  one_generator g h G H = same-words L R g h G.bits H.bits (G.long ∙ sym H.long) above G.sums H.sums
+  one_generator g h G H = same_words L R g h G.bits H.bits (G.long ∙ sym H.long) above G.sums H.sums
     where
       past : (w : List ℕ) → Generator m t d w → (i : ℕ) → d < i → get_or w i 0 ≡ 0
       past w W i l = get_or-eq_default w 0 (omega (arith, W.long))

@@ -144,7 +144,7 @@ rooted_n {m} L i =
         list = low ++ (1 ∷ []);
         long = long;
         bits = bits_append low_bits (bits_ones 1);
-        has = (get_or_at low 1 [] 0 (n_of m) low-long, root);
+        has = (get_or_at low 1 [] 0 (n_of m) low_long, root);
       };
     }
   where
@@ -154,13 +154,13 @@ rooted_n {m} L i =
     low_bits : AreBits low
     low_bits = bits_cons (omega arith) (bits_replicate (n_of m - 1))
 
-    low-long : length low ≡ n_of m
-    low-long =
+    low_long : length low ≡ n_of m
+    low_long =
         let e : suc (n_of m - 1) ≡ n_of m = omega (arith, eight_bound L) in
         ap suc (length-replicate {A = ℕ} (n_of m - 1) 0) ∙ e
 
     long : length (low ++ (1 ∷ [])) ≡ n_of m + 1
-    long = omega (arith, length-append low (1 ∷ []), low-long)
+    long = omega (arith, length-append low (1 ∷ []), low_long)
 
     one : sum_of m i low ≡ 1
     one =
@@ -171,7 +171,7 @@ rooted_n {m} L i =
 
     around : power m a (length low * i) ⊗⟨ m ⟩ sum_of m i (1 ∷ []) ≡ 1
     around =
-        ap₂ (λ (x y : ℕ). x ⊗⟨ m ⟩ y) (ap (λ (k : ℕ). power m a (k * i)) low-long ∙ power_rounds L i) (sum_one L i) ∙ one_product L 1 (one_bound L)
+        ap₂ (λ (x y : ℕ). x ⊗⟨ m ⟩ y) (ap (λ (k : ℕ). power m a (k * i)) low_long ∙ power_rounds L i) (sum_one L i) ∙ one_product L 1 (one_bound L)
 
     root : sum_of m i (low ++ (1 ∷ [])) ≡ 0
     root = sum-append L i low (1 ∷ []) low_bits (bits_ones 1) ∙ ap₂ (λ (x y : ℕ). x ⊕ y) one around ∙ sum_self 1

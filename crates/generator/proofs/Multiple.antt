@@ -83,8 +83,8 @@ module _ (d : ℕ) (g : List ℕ) (long : length g ≡ d + 1) (bits : AreBits g)
   divided_cons x c h D = record {
     q = e ∷ D.q;
     r = added next taken;
-    q_bits = bits_cons (next-bits.at d) D.q_bits;
-    r_bits = bits_added next-bits (bits_times (next-bits.at d) bits);
+    q_bits = bits_cons (next_bits.at d) D.q_bits;
+    r_bits = bits_added next_bits (bits_times (next_bits.at d) bits);
     r_long = omega (arith, length-added next taken, D.r_long);
     r_zero = λ i l. left_at i ∙ above i l;
     whole = whole;
@@ -93,8 +93,8 @@ module _ (d : ℕ) (g : List ℕ) (long : length g ≡ d + 1) (bits : AreBits g)
       next : List ℕ
       next = x ∷ D.r
 
-      next-bits : AreBits next
-      next-bits = bits_cons h D.r_bits
+      next_bits : AreBits next
+      next_bits = bits_cons h D.r_bits
 
       e : ℕ
       e = get_or next d 0

@@ -60,12 +60,12 @@ module _ {g old : List ℕ} (p e : ℕ) (G : AreBits g) (O : AreBits old) (same 
           added_at_before g e (take (length g - e) old) i b ∙ sym (sum-zero (get_or g i 0))
           ∙ ap (λ (x : ℕ). get_or g i 0 ⊕ x) (sym (delayed_before e old i b)) ∙ digit i
       at i h (no n) =
-          addedAt-sum i h (omega arith)
+          added_at-sum i h (omega arith)
           ∙ ap (λ (x : ℕ). get_or g i 0 ⊕ x) (get_or-take (length g - e) old (i - e) 0 (omega arith) ∙ sym (delayed_at e old i (omega arith))) ∙ digit i
         where
-          addedAt-sum : (i : ℕ) → i < length g → e ≤ i
+          added_at-sum : (i : ℕ) → i < length g → e ≤ i
               → get_or (added_at g e (take (length g - e) old)) i 0 ≡ get_or g i 0 ⊕ get_or (take (length g - e) old) (i - e) 0
-          addedAt-sum i h k = sum_place g e (take (length g - e) old) i k h
+          added_at-sum i h k = sum_place g e (take (length g - e) old) i k h
 
 -- the digits below e are worked in
 pub record Taps (p : ℕ) (old g : List ℕ) (e : ℕ) : Type 0 where

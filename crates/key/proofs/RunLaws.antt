@@ -124,22 +124,22 @@ module _ {m : ℕ} (L : IsField m) where
     D = discrepancy F S r s
 
     -- the next state, by cases
-    by-passed : (e : Dec (D ≡ K.𝟘)) → D ≡ K.𝟘 → step_by F D e r s ≡ passed F s
-    by-passed (yes h) z = refl
-    by-passed (no h) z = absurd (h z)
+    by_passed : (e : Dec (D ≡ K.𝟘)) → D ≡ K.𝟘 → step_by F D e r s ≡ passed F s
+    by_passed (yes h) z = refl
+    by_passed (no h) z = absurd (h z)
 
-    by-corrected : (b : Bool) (e : Dec (D ≡ K.𝟘)) → (D ≡ K.𝟘 → ⊥) → leb (2 * s.L) r ≡ b → step_by F D e r s ≡ corrected F b D r s
-    by-corrected b (yes h) n l = absurd (n h)
-    by-corrected b (no h) n l = ap (λ x. corrected F x D r s) l
+    by_corrected : (b : Bool) (e : Dec (D ≡ K.𝟘)) → (D ≡ K.𝟘 → ⊥) → leb (2 * s.L) r ≡ b → step_by F D e r s ≡ corrected F b D r s
+    by_corrected b (yes h) n l = absurd (n h)
+    by_corrected b (no h) n l = ap (λ x. corrected F x D r s) l
 
-    next-passed : D ≡ K.𝟘 → run F S (suc r) ≡ passed F s
-    next-passed z = run-suc F S r ∙ step_is F S r s ∙ by-passed (F.zero? D) z
+    next_passed : D ≡ K.𝟘 → run F S (suc r) ≡ passed F s
+    next_passed z = run-suc F S r ∙ step_is F S r s ∙ by_passed (F.zero? D) z
 
-    next-corrected : (b : Bool) → (D ≡ K.𝟘 → ⊥) → leb (2 * s.L) r ≡ b → run F S (suc r) ≡ corrected F b D r s
-    next-corrected b n l = run-suc F S r ∙ step_is F S r s ∙ by-corrected b (F.zero? D) n l
+    next_corrected : (b : Bool) → (D ≡ K.𝟘 → ⊥) → leb (2 * s.L) r ≡ b → run F S (suc r) ≡ corrected F b D r s
+    next_corrected b n l = run-suc F S r ∙ step_is F S r s ∙ by_corrected b (F.zero? D) n l
 
-    next-degree : (x : State F) → run F S (suc r) ≡ x → ZeroFrom K (suc x.L) x.σ
-    next-degree x e = subst (λ (z : State F). ZeroFrom K (suc z.L) z.σ) e (run_degree F S (suc r))
+    next_degree : (x : State F) → run F S (suc r) ≡ x → ZeroFrom K (suc x.L) x.σ
+    next_degree x e = subst (λ (z : State F). ZeroFrom K (suc z.L) z.σ) e (run_degree F S (suc r))
 
 module _ {m t l gap q : ℕ} {L : IsField m} {s : State (field m L)} {sigma b : List ℕ} (w : Holds m t L s l gap q sigma b) where
   abbrev E : Field
@@ -170,8 +170,8 @@ module _ {m t l gap q : ℕ} {L : IsField m} {s : State (field m L)} {sigma b : 
   module _ {d factor count : ℕ} {after : List ℕ} (D : R.El) (e : d ≡ D.0) (f : factor ≡ d ⊗⟨ m ⟩ q)
       (fill : Filled (plus_moved m factor gap b sigma) count sigma after)
       (old : ZeroFrom R count s.σ) (new : ZeroFrom R count (mended E D s)) where
-    mended-number : (i : ℕ) → i < t + 2 → get_or after i 0 ≡ (mended E D s i).0
-    mended-number i h = pick (dec_lt i count)
+    mended_number : (i : ℕ) → i < t + 2 → get_or after i 0 ≡ (mended E D s i).0
+    mended_number i h = pick (dec_lt i count)
       where
         pick : Dec (i < count) → get_or after i 0 ≡ (mended E D s i).0
         pick (yes k) =
@@ -190,20 +190,20 @@ module _ {m t l gap q : ℕ} {L : IsField m} {s : State (field m L)} {sigma b : 
           b_long = w.b_long;
           q_below = w.q_below;
           b_below = w.b_below;
-          sigma_holds = mended-number;
+          sigma_holds = mended_number;
           b_holds = holds_shifted;
         }
 
-    holds-renewed : (r : ℕ) {next inv : ℕ} {copy : List ℕ} → next ≡ suc r - s.L → inv ≡ inverse m d
+    holds_renewed : (r : ℕ) {next inv : ℕ} {copy : List ℕ} → next ≡ suc r - s.L → inv ≡ inverse m d
         → Filled (entry sigma) (t + 2) b copy → Holds m t L (corrected E true D r s) next 1 inv after copy
-    holds-renewed r {next} {inv} {copy} n v c =
+    holds_renewed r {next} {inv} {copy} n v c =
         record {
           length_is = n;
           sigma_long = omega (arith, fill.same, w.sigma_long);
           b_long = omega (arith, c.same, w.b_long);
           q_below = rw v (inverse_bound L d);
           b_below = λ i h. rw (c.holds i h, w.sigma_holds i h) (s.σ i).1;
-          sigma_holds = mended-number;
+          sigma_holds = mended_number;
           b_holds = moved;
         }
       where
@@ -281,42 +281,42 @@ module _ {m t r l gap q d : ℕ} {all sigma b : List ℕ} (h : Held m t all r l 
       path = ap (run G S) (add-one r) ∙ e
 
   pub step_passed : d ≡ 0 → Stepped m t all (r + 1) l (gap + 1) q sigma b
-  step_passed z = stepped_as (passed G now) (next-passed h.listed S r (missed_none z)) (holds_passed h.holds) (omega (arith, h.gap_within))
+  step_passed z = stepped_as (passed G now) (next_passed h.listed S r (missed_none z)) (holds_passed h.holds) (omega (arith, h.gap_within))
 
   module _ (n : d ≡ 0 → ⊥) where
-    kept-is : r < 2 * l → run G S (suc r) ≡ corrected G false miss r now
-    kept-is k = next-corrected h.listed S r false (missed_some n) (lt-leb (2 * now.L) r (rw h.holds.length_is at k))
+    kept_is : r < 2 * l → run G S (suc r) ≡ corrected G false miss r now
+    kept_is k = next_corrected h.listed S r false (missed_some n) (lt-leb (2 * now.L) r (rw h.holds.length_is at k))
 
-    renewed-is : 2 * l ≤ r → run G S (suc r) ≡ corrected G true miss r now
-    renewed-is k = next-corrected h.listed S r true (missed_some n) (le-leb (2 * now.L) r (rw h.holds.length_is at k))
+    renewed_is : 2 * l ≤ r → run G S (suc r) ≡ corrected G true miss r now
+    renewed_is k = next_corrected h.listed S r true (missed_some n) (le-leb (2 * now.L) r (rw h.holds.length_is at k))
 
-    next-length : r + 1 - l ≡ suc r - now.L
-    next-length = ap₂ (λ x y. x - y) (add-one r) h.holds.length_is
+    next_length : r + 1 - l ≡ suc r - now.L
+    next_length = ap₂ (λ x y. x - y) (add-one r) h.holds.length_is
 
     pub step_kept : {factor : ℕ} {after : List ℕ} → r < 2 * l → factor ≡ d ⊗⟨ m ⟩ q
         → Filled (plus_moved m factor gap b sigma) (l + 1) sigma after → Stepped m t all (r + 1) l (gap + 1) q after b
     step_kept k f fill =
-        stepped_as (corrected G false miss r now) (kept-is k)
+        stepped_as (corrected G false miss r now) (kept_is k)
         (holds_kept h.holds miss missed_is f (rw (add-one l) at fill) degree_here
-        (rw h.holds.length_is (next-degree h.listed S r (corrected G false miss r now) (kept-is k))) r)
+        (rw h.holds.length_is (next_degree h.listed S r (corrected G false miss r now) (kept_is k))) r)
         (omega (arith, h.gap_within))
 
-    pub step-over : 2 * l ≤ r → t < r + 1 - l → Stepped m t all (r + 1) (r + 1 - l) gap q sigma b
-    step-over k o =
+    pub step_over : 2 * l ≤ r → t < r + 1 - l → Stepped m t all (r + 1) (r + 1 - l) gap q sigma b
+    step_over k o =
         record {
           listed = h.listed;
-          length_is = next-length ∙ ap (λ z. z.L) (sym (ap (run G S) (add-one r) ∙ renewed-is k));
+          length_is = next_length ∙ ap (λ z. z.L) (sym (ap (run G S) (add-one r) ∙ renewed_is k));
           held = λ z. absurd (omega arith);
         }
 
-    pub step-renewed : {factor inv : ℕ} {after copy : List ℕ} → 2 * l ≤ r → factor ≡ d ⊗⟨ m ⟩ q
+    pub step_renewed : {factor inv : ℕ} {after copy : List ℕ} → 2 * l ≤ r → factor ≡ d ⊗⟨ m ⟩ q
         → Filled (plus_moved m factor gap b sigma) (r + 1 - l + 1) sigma after → Filled (entry sigma) (t + 2) b copy
         → inv ≡ inverse m d → Stepped m t all (r + 1) (r + 1 - l) 1 inv after copy
-    step-renewed k f fill c v =
-        stepped_as (corrected G true miss r now) (renewed-is k)
-        (holds-renewed h.holds miss missed_is f (rw (add-one (r + 1 - l)) at fill)
+    step_renewed k f fill c v =
+        stepped_as (corrected G true miss r now) (renewed_is k)
+        (holds_renewed h.holds miss missed_is f (rw (add-one (r + 1 - l)) at fill)
         (zero_from_weaken P now.σ (suc l) (suc (r + 1 - l)) (omega arith) degree_here)
-        (rw next-length (next-degree h.listed S r (corrected G true miss r now) (renewed-is k))) r next-length v c)
+        (rw next_length (next_degree h.listed S r (corrected G true miss r now) (renewed_is k))) r next_length v c)
         (omega arith)
 
 -- the start, and the end

@@ -213,8 +213,8 @@ module _ {m t l : ℕ} {sums sigma ps : List ℕ} (s : SolvedFor m t sums l sigm
     abbrev d : ℕ
     d = suc l + suc (length E)
 
-    value-is : (p : ℕ) → p < n_of m → tried m sigma (l + 1) p ≡ (evaluate R d (run G S (2 * t)).σ (G.inverse (point L₁ p))).0
-    value-is p k =
+    value_is : (p : ℕ) → p < n_of m → tried m sigma (l + 1) p ≡ (evaluate R d (run G S (2 * t)).σ (G.inverse (point L₁ p))).0
+    value_is p k =
         ap (value_from m (power m a (n_of m - p)) sigma 0) (add-one l)
         ∙ value_number L₁ (suc l) (run G S (2 * t)).σ sigma 0 (point L₁ (n_of m - p))
         (λ i b. ap (λ n. get_or sigma n 0) (none i) ∙ (s.solved.short h).1 i (omega arith))
@@ -227,26 +227,26 @@ module _ {m t l : ℕ} {sums sigma ps : List ℕ} (s : SolvedFor m t sums l sigm
         none : (i : ℕ) → 0 + i ≡ i
         none i = omega arith
 
-    zeros-are : zeros m sigma (l + 1) (n_of m) ≡ ps
-    zeros-are = ascending_same (zeros m sigma (l + 1) (n_of m)) ps (zeros_ascending m sigma (l + 1) (n_of m)) u.ascending into back
+    zeros_are : zeros m sigma (l + 1) (n_of m) ≡ ps
+    zeros_are = ascending_same (zeros m sigma (l + 1) (n_of m)) ps (zeros_ascending m sigma (l + 1) (n_of m)) u.ascending into back
       where
         into : (p : ℕ) → Memᴰ p (zeros m sigma (l + 1) (n_of m)) → Memᴰ p ps
         into p k =
             let q = zeros_member m sigma (l + 1) (n_of m) p k in
             place_member L₁ p ps q.0 u.below
-            (found.root (point L₁ p) (λ z. power_nonzero L₁ p (ap (λ x. x.0) z)) d (omega arith) (el_path (sym (value-is p q.0) ∙ q.1)))
+            (found.root (point L₁ p) (λ z. power_nonzero L₁ p (ap (λ x. x.0) z)) d (omega arith) (el_path (sym (value_is p q.0) ∙ q.1)))
 
         back : (p : ℕ) → Memᴰ p ps → Memᴰ p (zeros m sigma (l + 1) (n_of m))
         back p k =
             member_zeros m sigma (l + 1) (n_of m) p (u.below p k)
-            (value-is p (u.below p k) ∙ ap (λ x. x.0) (found.rooted (point L₁ p) (point_member L₁ ps k) d (omega arith)))
+            (value_is p (u.below p k) ∙ ap (λ x. x.0) (found.rooted (point L₁ p) (point_member L₁ ps k) d (omega arith)))
 
-    pub not-many : {count : ℕ} {places : List ℕ} → Tried m t sigma (l + 1) count places → t < count → ⊥
-    not-many w k = omega (arith, w.most k, ap length zeros-are, u.few)
+    pub not_many : {count : ℕ} {places : List ℕ} → Tried m t sigma (l + 1) count places → t < count → ⊥
+    not_many w k = omega (arith, w.most k, ap length zeros_are, u.few)
 
-    pub not-other : {count : ℕ} {r : Bool} {places : List ℕ} → Tried m t sigma (l + 1) count places → count ≤ t
+    pub not_other : {count : ℕ} {r : Bool} {places : List ℕ} → Tried m t sigma (l + 1) count places → count ≤ t
         → Agrees m t (take count places) sums r → r ≡ false → ⊥
-    not-other w k c e = c.no e (λ i h. ap (sum_over m (2 * i + 1)) (w.all_of k ∙ zeros-are) ∙ u.same i h)
+    not_other w k c e = c.no e (λ i h. ap (sum_over m (2 * i + 1)) (w.all_of k ∙ zeros_are) ∙ u.same i h)
 
 -- every place that is found is below n
 pub found_below : {m t c count : ℕ} {sigma places : List ℕ} → Tried m t sigma c count places → count ≤ t → t ≤ length places

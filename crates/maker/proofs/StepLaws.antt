@@ -131,14 +131,14 @@ last_line {before} {start} {line = line} r e s n =
       names = w.names;
       writes_frames = w.writes_frames;
       writes_names = w.writes_names;
-      gives = λ begun o. rw (last-of begun o) (rw (line_ends begun) at (w.takes begun o).gives);
+      gives = λ begun o. rw (last_of_lem begun o) (rw (line_ends begun) at (w.takes begun o).gives);
     }
   where
-    last-of : (begun : List ℕ) → Holds line before.held begun → last_of begun ≡ begun ∷ []
-    last-of [] o =
+    last_of_lem : (begun : List ℕ) → Holds line before.held begun → last_of begun ≡ begun ∷ []
+    last_of_lem [] o =
         let some : start.held ≡ before.held = ap (λ (p : Progress). p.held) e in
         absurd (n (omega (arith, ap length o.front, length-take-le before.held line (omega (arith, r.room.for_line, r.held)))))
-    last-of (b ∷ bs) o = refl
+    last_of_lem (b ∷ bs) o = refl
 
 pub no_line : {before start : Progress} (line frames names : List ℕ) → start ≡ emptied before → start.held ≡ 0
     → FillsLast before line frames names start frames names

@@ -169,11 +169,11 @@ module _ {m step n two three four : ℕ} (L : IsField m) (S : Strides m step n t
       third =
           added_next start step
           (subst (λ (z : ℕ). Added m start step i z before (plus_at (plus_at after j (get_or powers e 0)) (j + 1) (get_or powers (e + step) 0)))
-          two-more second) (omega arith) (omega arith)
+          two_more second) (omega arith) (omega arith)
           (P.holds (e + two) W.second ∙ walked_on L start step e two d 2 s.here two_steps)
         where
-          two-more : d + 1 + 1 ≡ d + 2
-          two-more = omega arith
+          two_more : d + 1 + 1 ≡ d + 2
+          two_more = omega arith
 
       fourth : Added m start step i (d + 3 + 1) before (plus_four powers e (e + step) (e + two) (e + three) j after)
       fourth =
@@ -181,11 +181,11 @@ module _ {m step n two three four : ℕ} (L : IsField m) (S : Strides m step n t
           (subst
           (λ (z : ℕ). Added m start step i z before
           (plus_at (plus_at (plus_at after j (get_or powers e 0)) (j + 1) (get_or powers (e + step) 0)) (j + 2) (get_or powers (e + two) 0)))
-          three-more third) (omega arith) (omega arith)
+          three_more third) (omega arith) (omega arith)
           (P.holds (e + three) W.third ∙ walked_on L start step e three d 3 s.here three_steps)
         where
-          three-more : d + 2 + 1 ≡ d + 3
-          three-more = omega arith
+          three_more : d + 2 + 1 ≡ d + 3
+          three_more = omega arith
 
       last : d + 3 + 1 ≡ d + 4
       last = omega arith

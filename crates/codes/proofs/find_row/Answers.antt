@@ -30,10 +30,10 @@ next {to = to} {t} {row} f h e = record {
 }
 
 none : {table : List ℕ} {from to t row : ℕ} → Looking table from to t row → to ≤ row → row ≡ row_from (to - from) from t
-none {to = to} {t} {row} f h = sym (row_from_none row t) ∙ ap (λ (n : ℕ). row_from n row t) (sub-eq-zero h) ∙ f.left
+none {to = to} {t} {row} f h = sym (row_from_none row t) ∙ ap (λ (n : ℕ). row_from n row t) (sub_eq_zero h) ∙ f.left
   where
-    sub-eq-zero : to ≤ row → 0 ≡ to - row
-    sub-eq-zero k = omega arith
+    sub_eq_zero : to ≤ row → 0 ≡ to - row
+    sub_eq_zero k = omega arith
 
 pub loop-row-init : goal.loop-row-init
 loop-row-init c = record { is = c.requires.0; within = c.requires.1; most = c.requires.2; left = λ i. row_from (c.args.to - c.args.from) c.args.from c.args.t }

@@ -1,5 +1,5 @@
 -- The checks, then the search.
-use Rattle.codes.proofs.CheckLaws.{passed_known, passed_checks, on-passed, on-refused-as}
+use Rattle.codes.proofs.CheckLaws.{passed_known, passed_checks, on_passed, on_refused_as}
 use Rattle.decode.proofs.DecodeSteps.{decode_ready, left_as_lent}
 use Rattle.decode.proofs.decode.Goals as goal
 
@@ -11,9 +11,9 @@ mend_received-requires c =
 
 pub returns-in-Passes : goal.returns-in-Passes
 returns-in-Passes c =
-    on-passed c.in-Passes.is c.checks-checked.ensures c.mend_received.ensures
+    on_passed c.in-Passes.is c.checks-checked.ensures c.mend_received.ensures
 
 pub returns-in-Refused : goal.returns-in-Refused
 returns-in-Refused c =
     let r = c.refused.ensures in
-    on-refused-as c.in-Refused.is c.checks-checked.ensures r.0 (left_as_lent _ _ r.1)
+    on_refused_as c.in-Refused.is c.checks-checked.ensures r.0 (left_as_lent _ _ r.1)

@@ -25,8 +25,8 @@ module _ {m p n x i : ℕ} {first powers : List ℕ} (f : Filling m p n first po
   abbrev last : List ℕ
   last = set middle (n + i) x
 
-  fits-middle : 2 * n ≤ length middle
-  fits-middle = simp length-set f.fits
+  fits_middle : 2 * n ≤ length middle
+  fits_middle = simp length-set f.fits
 
   filled : (j : ℕ) → j < i + 1 → get_or last j 0 ≡ power m a j
   filled =
@@ -38,29 +38,29 @@ module _ {m p n x i : ℕ} {first powers : List ℕ} (f : Filling m p n first po
   round : power m a i ≡ power m a (n + i)
   round = around_power f.listed (n + i) f.is_n (sym (add-sub_cancel_left n i) ∙ around_past (omega arith) (omega arith))
 
-  filled-again : (j : ℕ) → j < i + 1 → get_or last (n + j) 0 ≡ power m a (n + j)
-  filled-again =
+  filled_again : (j : ℕ) → j < i + 1 → get_or last (n + j) 0 ≡ power m a (n + j)
+  filled_again =
       below_more _ i
       (λ j k. get_or-set_other middle (n + i) (n + j) _ 0 (λ e. omega arith) ∙ get_or-set_other powers i (n + j) x 0 (λ e. omega arith) ∙ f.again j k)
-      (get_or-set_same middle (n + i) _ 0 (omega (arith, fits-middle)) ∙ f.here ∙ round)
+      (get_or-set_same middle (n + i) _ 0 (omega (arith, fits_middle)) ∙ f.here ∙ round)
 
   next : {y : ℕ} → y ≡ a ⊗⟨ m ⟩ x → Filling m p n first last y (i + 1)
   next e =
       record {
         listed = f.listed;
-        is-polynomial = f.is-polynomial;
+        is_polynomial = f.is_polynomial;
         is_n = f.is_n;
         fits = simp length-set f.fits;
         same = simp length-set f.same;
         within = omega arith;
         here = e ∙ ap (λ (z : ℕ). a ⊗⟨ m ⟩ z) f.here ∙ sym (power-suc m a i) ∙ ap (power m a) (sym (add-one i));
         once = filled;
-        again = filled-again;
+        again = filled_again;
       }
 
 -- the places below n and those from n to 2n - 1
-all-filled : {m p n x i : ℕ} {first powers : List ℕ} → Filling m p n first powers x i → n ≤ i → Powers m powers
-all-filled {m} {n = n} {powers = powers} f h = record { long = omega (arith, f.fits, f.is_n); holds = λ j k. pick j k (dec_lt j n) }
+all_filled : {m p n x i : ℕ} {first powers : List ℕ} → Filling m p n first powers x i → n ≤ i → Powers m powers
+all_filled {m} {n = n} {powers = powers} f h = record { long = omega (arith, f.fits, f.is_n); holds = λ j k. pick j k (dec_lt j n) }
   where
     pick : (j : ℕ) → j < 2 * n_of m → Dec (j < n) → get_or powers j 0 ≡ power m a j
     pick j k (yes l) = f.once j (omega arith)
@@ -77,7 +77,7 @@ n_of-n-requires c = c.requires.0
 pub loop-i-init : goal.loop-i-init
 loop-i-init c = record {
   listed = c.requires.0;
-  is-polynomial = c.polynomial-p.ensures;
+  is_polynomial = c.polynomial-p.ensures;
   is_n = c.n_of-n.ensures;
   fits = omega (arith, powers_room c.requires.0 c.requires.1, c.n_of-n.ensures);
   same = omega arith;
@@ -100,11 +100,11 @@ pub offset_bounds-powers-n : goal.offset_bounds-powers-n
 offset_bounds-powers-n c = let s = sizes c.loop-i.invariant.listed in omega (arith, c.loop-i.invariant.is_n)
 
 pub bounds-powers-n : goal.bounds-powers-n
-bounds-powers-n c = omega (arith, fits-middle c.loop-i.invariant c.loop-i-test.true)
+bounds-powers-n c = omega (arith, fits_middle c.loop-i.invariant c.loop-i-test.true)
 
 pub times_a-x-requires : goal.times_a-x-requires
 times_a-x-requires c =
-    let f = c.loop-i.invariant in (f.listed, f.is-polynomial, rw f.here (power_bound f.listed _ _))
+    let f = c.loop-i.invariant in (f.listed, f.is_polynomial, rw f.here (power_bound f.listed _ _))
 
 pub overflow_add-i : goal.overflow_add-i
 overflow_add-i c = let s = sizes c.loop-i.invariant.listed in omega arith
@@ -116,4 +116,4 @@ pub shape_of-powers : goal.shape_of-powers
 shape_of-powers c = c.loop-i.invariant.same
 
 pub returns : goal.returns
-returns c = all-filled c.loop-i.invariant c.loop-i-test.false
+returns c = all_filled c.loop-i.invariant c.loop-i-test.false

@@ -9,7 +9,7 @@ use Rattle.field.proofs.fill_powers.Given as goal
 
 pub record Filling (m p n : ℕ) (first powers : List ℕ) (x i : ℕ) : Type 0 where
   pub listed : IsField m
-  pub is-polynomial : p ≡ polynomial m
+  pub is_polynomial : p ≡ polynomial m
   pub is_n : n ≡ n_of m
   pub fits : 2 * n ≤ length powers
   pub same : length powers ≡ length first

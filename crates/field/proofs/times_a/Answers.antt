@@ -15,8 +15,8 @@ shifted_by : (m p x : ℕ) {over : ℕ} → 2 * x / 2 ^ m ≡ over → 2 * x ⊕
 unfolding shifted
 shifted_by m p x e = ap (λ d. 2 * x ⊕ (d % 2 * p)) (sym e)
 
-over-one : (m x : ℕ) → 2 ^ m ≤ 2 * x → x < 2 ^ m → 2 * x / 2 ^ m ≡ 1
-over-one m x h k = omega (arith, over_lt m k, (le-div_iff_mul-le {x = 1} {y = 2 * x} (pow_pos m)).1 (rw (one-mul (2 ^ m)) h))
+over_one : (m x : ℕ) → 2 ^ m ≤ 2 * x → x < 2 ^ m → 2 * x / 2 ^ m ≡ 1
+over_one m x h k = omega (arith, over_lt m k, (le-div_iff_mul-le {x = 1} {y = 2 * x} (pow_pos m)).1 (rw (one-mul (2 ^ m)) h))
 
 pub overflow_mul-twice : goal.overflow_mul-twice
 overflow_mul-twice c = let s = sizes c.requires.0 in omega arith
@@ -27,7 +27,7 @@ returns-then-twice-n c =
     let s = sizes c.requires.0 in
     ap (λ (z : ℕ). 2 * c.args.x ⊕ z) (sym (one-mul c.args.p))
     ∙ shifted_by c.args.m c.args.p c.args.x
-    (over-one c.args.m c.args.x (omega (arith, c.if-twice-n.true)) c.requires.2)
+    (over_one c.args.m c.args.x (omega (arith, c.if-twice-n.true)) c.requires.2)
     ∙ ap (λ (p : ℕ). shifted c.args.m p c.args.x) c.requires.1
     ∙ times_a c.requires.0 _ c.requires.2
 

@@ -1,7 +1,7 @@
 -- Each way out is one case of the abstract step.
 use native.Mathlib.Omega.{arith}
 use Rattle.field.proofs.ProductLaws.{product_bound}
-use Rattle.key.proofs.RunLaws.{held_within, held_below, missed_below, step_passed, step_kept, step-over, step-renewed}
+use Rattle.key.proofs.RunLaws.{held_within, held_below, missed_below, step_passed, step_kept, step_over, step_renewed}
 use Rattle.key.proofs.step.Goals as goal
 
 pub overflow_add-more : goal.overflow_add-more
@@ -64,7 +64,7 @@ overflow_sub-next c =
 
 pub returns-then-t-next : goal.returns-then-t-next
 returns-then-t-next c =
-    step-over c.requires.4 c.requires.3 c.missed-d.ensures c.if-d-eq0.false c.if-r-l.false c.if-t-next.true
+    step_over c.requires.4 c.requires.3 c.missed-d.ensures c.if-d-eq0.false c.if-r-l.false c.if-t-next.true
 
 pub overflow_add-next-2 : goal.overflow_add-next-2
 overflow_add-next-2 c =
@@ -98,5 +98,5 @@ shape_of-b c = c.renew.ensures.1.same
 
 pub returns : goal.returns
 returns c =
-    step-renewed c.requires.4 c.requires.3 c.missed-d.ensures c.if-d-eq0.false c.if-r-l.false
+    step_renewed c.requires.4 c.requires.3 c.missed-d.ensures c.if-d-eq0.false c.if-r-l.false
     c.product-factor.ensures c.renew.ensures.0 c.renew.ensures.1 c.inverse-inverse.ensures

@@ -1,7 +1,7 @@
 -- What is found has the sums. Where nothing is found, there is no list with these sums, since the trial would have found it.
 use native.Mathlib.Omega.{arith}
 use Rattle.key.proofs.MendLaws.{space_long}
-use Rattle.locate.proofs.FindLaws.{not_passed, not-many, not-other, found_below, located, solved_below}
+use Rattle.locate.proofs.FindLaws.{not_passed, not_many, not_other, found_below, located, solved_below}
 use Rattle.locate.proofs.find_places.Goals as goal
 
 pub returns-then-t-l : goal.returns-then-t-l
@@ -20,7 +20,7 @@ pub returns-then-t-found : goal.returns-then-t-found
 returns-then-t-found c =
     record {
       some = λ h. absurd (omega (arith, c.if-t-found.true));
-      none = λ h ps u. not-many c.solve-l.ensures u c.if-t-l.false c.try_all-found.ensures h;
+      none = λ h ps u. not_many c.solve-l.ensures u c.if-t-l.false c.try_all-found.ensures h;
     }
 
 pub compare-same-requires : goal.compare-same-requires
@@ -47,6 +47,6 @@ pub returns : goal.returns
 returns c =
     record {
       some = λ h. absurd (omega arith);
-      none = λ h ps u. not-other c.solve-l.ensures u c.if-t-l.false c.try_all-found.ensures
+      none = λ h ps u. not_other c.solve-l.ensures u c.if-t-l.false c.try_all-found.ensures
           c.if-t-found.false c.compare-same.ensures c.if-same.false;
     }

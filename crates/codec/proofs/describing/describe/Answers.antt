@@ -1,6 +1,6 @@
 -- The checks, then the generator.
 use Rattle.sheet.proofs.VerdictLaws.{always}
-use Rattle.codes.proofs.CheckLaws.{passed_known, passed_checks, on-passed, on-refused}
+use Rattle.codes.proofs.CheckLaws.{passed_known, passed_checks, on_passed, on_refused}
 use Rattle.codec.proofs.DescribeLaws.{describe_ready, described}
 use Rattle.codec.proofs.describing.describe.Goals as goal
 
@@ -14,7 +14,7 @@ pub returns-in-Passes : goal.returns-in-Passes
 returns-in-Passes c =
     let e = c.in-Passes.is in
     let p = c.checks-checked.ensures in
-    on-passed e p (always (described (passed_known e p) c.fill_generator.ensures))
+    on_passed e p (always (described (passed_known e p) c.fill_generator.ensures))
 
 pub returns-in-Refused : goal.returns-in-Refused
-returns-in-Refused c = on-refused c.in-Refused.is c.checks-checked.ensures
+returns-in-Refused c = on_refused c.in-Refused.is c.checks-checked.ensures

@@ -1,6 +1,6 @@
 -- The checks, then the stretch.
 use Rattle.sheet.proofs.VerdictLaws.{always}
-use Rattle.codes.proofs.CheckLaws.{passed_known, passed_checks, on-passed, on-refused}
+use Rattle.codes.proofs.CheckLaws.{passed_known, passed_checks, on_passed, on_refused}
 use Rattle.codec.proofs.EditLaws.{edit_ready}
 use Rattle.codec.proofs.editing.edit.Goals as goal
 
@@ -12,7 +12,7 @@ put_stretch-requires c =
 
 pub returns-in-Passes : goal.returns-in-Passes
 returns-in-Passes c =
-    on-passed c.in-Passes.is c.checks-checked.ensures (always c.put_stretch.ensures)
+    on_passed c.in-Passes.is c.checks-checked.ensures (always c.put_stretch.ensures)
 
 pub returns-in-Refused : goal.returns-in-Refused
-returns-in-Refused c = on-refused c.in-Refused.is c.checks-checked.ensures
+returns-in-Refused c = on_refused c.in-Refused.is c.checks-checked.ensures

@@ -1,5 +1,5 @@
 -- The checks, then the word.
-use Rattle.codes.proofs.CheckLaws.{passed_known, passed_checks, on-passed, on-refused}
+use Rattle.codes.proofs.CheckLaws.{passed_known, passed_checks, on_passed, on_refused}
 use Rattle.sheet.proofs.VerdictLaws.{always}
 use Rattle.codec.proofs.EncodeLaws.{encode_ready}
 use Rattle.codec.proofs.encoding.encode.Goals as goal
@@ -12,7 +12,7 @@ fill_word-requires c =
 
 pub returns-in-Passes : goal.returns-in-Passes
 returns-in-Passes c =
-    on-passed c.in-Passes.is c.checks-checked.ensures (always c.fill_word.ensures)
+    on_passed c.in-Passes.is c.checks-checked.ensures (always c.fill_word.ensures)
 
 pub returns-in-Refused : goal.returns-in-Refused
-returns-in-Refused c = on-refused c.in-Refused.is c.checks-checked.ensures
+returns-in-Refused c = on_refused c.in-Refused.is c.checks-checked.ensures

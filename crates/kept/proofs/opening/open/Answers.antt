@@ -1,7 +1,7 @@
 -- The checks, then the record.
 use mathlib.Core.Path.{refl}
 use Rattle.sheet.proofs.VerdictLaws.{always}
-use Rattle.codes.proofs.CheckLaws.{passed_known, passed_checks, on-passed, on-refused-as}
+use Rattle.codes.proofs.CheckLaws.{passed_known, passed_checks, on_passed, on_refused_as}
 use Rattle.kept.proofs.RecordLaws.{kept_same}
 use Rattle.kept.proofs.OpenLaws.{open_ready}
 use Rattle.kept.proofs.opening.open.Goals as goal
@@ -14,9 +14,9 @@ opened-requires c =
 
 pub returns-in-Passes : goal.returns-in-Passes
 returns-in-Passes c =
-    on-passed c.in-Passes.is c.checks-checked.ensures (always c.opened.ensures)
+    on_passed c.in-Passes.is c.checks-checked.ensures (always c.opened.ensures)
 
 pub returns-in-Refused : goal.returns-in-Refused
 returns-in-Refused c =
     let zeros = kept_same refl refl c.word_space.ensures c.space.ensures in
-    on-refused-as c.in-Refused.is c.checks-checked.ensures refl zeros
+    on_refused_as c.in-Refused.is c.checks-checked.ensures refl zeros
