@@ -133,7 +133,8 @@ differences_self [] = differences-nil []
 differences_self (x ∷ xs) = differences_same xs xs refl ∙ ap (map suc) (differences_self xs)
 
 -- a place past all differences that is changed comes last in the list
-pub differences_more : (xs ys : List ℕ) (p x : ℕ) → length xs ≡ length ys → p < length ys → ((i : ℕ) → p ≤ i → get_or xs i 0 ≡ get_or ys i 0) → get_or ys p 0 ≢ x
+pub differences_more : (xs ys : List ℕ) (p x : ℕ) → length xs ≡ length ys → p < length ys → ((i : ℕ) → p ≤ i → get_or xs i 0 ≡ get_or ys i 0)
+    → get_or ys p 0 ≢ x
     → differences xs (set ys p x) ≡ differences xs ys ++ p ∷ []
 differences_more xs [] p x l h same n = absurd (omega arith)
 differences_more [] (y ∷ ys) p x l h same n = absurd (omega arith)

@@ -16,7 +16,8 @@ use Rattle.bits.specs.Work.{added_at}
 use Rattle.bits.proofs.BitLaws.{bits_append, bits_take, bits_drop, added_none, added-cons, added_at-zero, added_at-cons}
 use Rattle.bits.proofs.BitLaws.{added_at-nil, added_at_after, flipped-nil, flipped-cons}
 
-added_more : (d s : List ℕ) (i : ℕ) → i < length d → i < length s → set (added d (take i s)) i (bit_xor (get_or d i 0) (get_or s i 0)) ≡ added d (take (suc i) s)
+added_more : (d s : List ℕ) (i : ℕ) → i < length d → i < length s
+    → set (added d (take i s)) i (bit_xor (get_or d i 0) (get_or s i 0)) ≡ added d (take (suc i) s)
 added_more [] s i h k = absurd (not-suc-le-zero h)
 added_more (x ∷ d) [] i h k = absurd (not-suc-le-zero k)
 added_more (x ∷ d) (y ∷ s) zero h k = rw (added_none (x ∷ d), added-cons x d y [], added_none d)
@@ -71,7 +72,8 @@ paste_at d at s i h k =
 pub same_from : (n : ℕ) (xs ys : List ℕ) → drop n xs ≡ drop n ys → (i : ℕ) → n ≤ i → get_or xs i 0 ≡ get_or ys i 0
 same_from n xs ys e i h =
     let at : n + (i - n) ≡ i = omega arith in
-    subst (λ (p : ℕ). get_or xs p 0 ≡ get_or ys p 0) at (sym (get_or-drop n xs (i - n) 0) ∙ ap (λ (l : List ℕ). get_or l (i - n) 0) e ∙ get_or-drop n ys (i - n) 0)
+    subst (λ (p : ℕ). get_or xs p 0 ≡ get_or ys p 0) at
+    (sym (get_or-drop n xs (i - n) 0) ∙ ap (λ (l : List ℕ). get_or l (i - n) 0) e ∙ get_or-drop n ys (i - n) 0)
 
 -- what a copy leaves at the places before and after those copied to
 pub paste_before : (d : List ℕ) (at : ℕ) (s : List ℕ) (i : ℕ) → at ≤ length d → i < at → get_or (paste d at s (length s)) i 0 ≡ get_or d i 0

@@ -89,7 +89,8 @@ drop_bytes n l b = record { below = λ i. omega (arith, get_or-drop n l i 0, b.b
 bytes_of_number : (l : List ℕ) (at : ℕ) → AreBytes l → at + 4 ≤ length l → four_bytes (number_at l at) ≡ take 4 (drop at l)
 unfolding number_at
 bytes_of_number l at b h =
-    four_of (get_or l at 0) (get_or l (at + 1) 0) (get_or l (at + 2) 0) (get_or l (at + 3) 0) (b.below at) (b.below (at + 1)) (b.below (at + 2)) (b.below (at + 3))
+    four_of (get_or l at 0) (get_or l (at + 1) 0) (get_or l (at + 2) 0) (get_or l (at + 3) 0)
+    (b.below at) (b.below (at + 1)) (b.below (at + 2)) (b.below (at + 3))
     ∙ sym (four_places l at h)
 
 -- what passes the checks is a book

@@ -73,7 +73,8 @@ module _ {m : ℕ} (L : IsField m) where
           h 0 (suc i) (omega arith) (omega arith) (power_injective L r (get_or rs i 0) (l 0 (omega arith)) (l (suc i) (omega arith)) e)
 
   -- d bits whose sums are 0 at d different exponents below n are all 0
-  pub zero_by_roots : (d : ℕ) (rs : List ℕ) → length rs ≡ d → ((i j : ℕ) → i < j → j < d → get_or rs i 0 ≢ get_or rs j 0) → ((i : ℕ) → i < d → get_or rs i 0 < n_of m)
+  pub zero_by_roots : (d : ℕ) (rs : List ℕ) → length rs ≡ d → ((i j : ℕ) → i < j → j < d → get_or rs i 0 ≢ get_or rs j 0)
+      → ((i : ℕ) → i < d → get_or rs i 0 < n_of m)
       → (xs : List ℕ) → AreBits xs → ((i : ℕ) → d ≤ i → get_or xs i 0 ≡ 0) → ((i : ℕ) → i < d → sum_of m (get_or rs i 0) xs ≡ 0)
       → (i : ℕ) → get_or xs i 0 ≡ 0
   zero_by_roots d rs long differ below xs b z h i = pick (dec_le d i)

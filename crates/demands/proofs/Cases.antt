@@ -251,7 +251,8 @@ same_list_lem [] [] t = refl
 same_list_lem [] (y ∷ ys) t = absurd t
 same_list_lem (x ∷ xs) [] t = absurd t
 same_list_lem (x ∷ xs) (y ∷ ys) t =
-    ap₂ (λ (z : ℕ) (zs : List ℕ). z ∷ zs) (eqb→eq x y (both_left (eqb x y) (same_list xs ys) t)) (same_list_lem xs ys (both_right (eqb x y) (same_list xs ys) t))
+    ap₂ (λ (z : ℕ) (zs : List ℕ). z ∷ zs) (eqb→eq x y (both_left (eqb x y) (same_list xs ys) t))
+    (same_list_lem xs ys (both_right (eqb x y) (same_list xs ys) t))
 
 -- the test f passes below n
 below_passed : (f : ℕ → Bool) (n : ℕ) → T (passes f 0 n) → (i : ℕ) → i < n → T (f i)

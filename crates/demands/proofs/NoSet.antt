@@ -34,7 +34,8 @@ no_set m zero i t sums = not (zeroes sums)
 no_set m (suc f) i zero sums = not (zeroes sums)
 no_set m (suc f) i (suc t) sums = both (no_set m f (suc i) (suc t) sums) (no_set m f (suc i) t (plus_place m i 1 sums))
 
-no_set_more : (m f i t : ℕ) (sums : List ℕ) → no_set m (suc f) i (suc t) sums ≡ both (no_set m f (suc i) (suc t) sums) (no_set m f (suc i) t (plus_place m i 1 sums))
+no_set_more : (m f i t : ℕ) (sums : List ℕ)
+    → no_set m (suc f) i (suc t) sums ≡ both (no_set m f (suc i) (suc t) sums) (no_set m f (suc i) t (plus_place m i 1 sums))
 unfolding no_set
 no_set_more m f i t sums = refl
 

@@ -65,7 +65,8 @@ module _ {m r : ℕ} (w : RowOf m r) where
       start j l h = sum-product w.listed j (minimal_of r) g (minimal_bits r) G.bits ∙ pick (ℕ_discrete j (2 * before_t m r + 1))
         where
           pick : Dec (j ≡ 2 * before_t m r + 1) → sum_of m j (minimal_of r) ⊗⟨ m ⟩ sum_of m j g ≡ 0
-          pick (yes p) = ap (λ i. sum_of m i (minimal_of r) ⊗⟨ m ⟩ sum_of m j g) p ∙ ap (λ z. z ⊗⟨ m ⟩ sum_of m j g) (minimal_root w) ∙ zero-product m (sum_of m j g)
+          pick (yes p) =
+              ap (λ i. sum_of m i (minimal_of r) ⊗⟨ m ⟩ sum_of m j g) p ∙ ap (λ z. z ⊗⟨ m ⟩ sum_of m j g) (minimal_root w) ∙ zero-product m (sum_of m j g)
           pick (no p) = ap (λ z. sum_of m j (minimal_of r) ⊗⟨ m ⟩ z) (G.sums j l (omega arith)) ∙ product-zero m (sum_of m j (minimal_of r))
 
 product_of_none : (r : ℕ) → product_of r zero ≡ 1 ∷ []

@@ -134,7 +134,8 @@ right_minimal_at : {m r : ℕ} → RowOf m r → RightMinimal m (before_k m r) (
 unfolding before_k before_t
 right_minimal_at {m} {r} w =
     let e : first m + (r - first m) ≡ r = omega arith in
-    let at : (xs : List ℕ) → get_or (drop (first m) xs) (r - first m) 0 ≡ get_or xs r 0 = λ xs. get_or-drop (first m) xs (r - first m) 0 ∙ ap (λ i. get_or xs i 0) e in
+    let at : (xs : List ℕ) → get_or (drop (first m) xs) (r - first m) 0 ≡ get_or xs r 0 =
+    λ xs. get_or-drop (first m) xs (r - first m) 0 ∙ ap (λ i. get_or xs i 0) e in
     let one : ◌≡◌ {A = ℕ} 2 (power m a (2 * 0 + 1)) = sym (power-one w.listed a (omega (arith, eight_bound w.listed))) in
     rw (← at ks, ← at ts, ← at minimals)
     (walk_at w.listed (first (suc m) - first m) (n_of m) 0 (drop (first m) ks) (drop (first m) ts) (drop (first m) minimals)

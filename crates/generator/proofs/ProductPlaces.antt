@@ -39,7 +39,8 @@ product_snoc (x ∷ xs) b ys (suc i) =
     ∙ ap (λ (z : ℕ). z ⊕ b * get_or (replicate (length xs) 0 ++ ys) i 0) (sym (product_place x xs ys (suc i)))
 
 -- place i of the product depends only on the places 0 to i of the second factor
-pub product_local : (xs ys zs : List ℕ) (i : ℕ) → ((j : ℕ) → j ≤ i → get_or ys j 0 ≡ get_or zs j 0) → get_or (product_bits xs ys) i 0 ≡ get_or (product_bits xs zs) i 0
+pub product_local : (xs ys zs : List ℕ) (i : ℕ) → ((j : ℕ) → j ≤ i → get_or ys j 0 ≡ get_or zs j 0)
+    → get_or (product_bits xs ys) i 0 ≡ get_or (product_bits xs zs) i 0
 product_local [] ys zs i h = product_none ys i ∙ sym (product_none zs i)
 product_local (x ∷ xs) ys zs zero h =
     product_place x xs ys 0 ∙ ap (λ (z : ℕ). 0 ⊕ x * z) (h 0 (omega arith)) ∙ sym (product_place x xs zs 0)

@@ -26,7 +26,8 @@ pub crossed-zero : (m : ℕ) (sigma all : List ℕ) (r : ℕ) → crossed m sigm
 unfolding crossed
 crossed-zero m sigma all r = refl
 
-pub crossed-suc : (m : ℕ) (sigma all : List ℕ) (r c : ℕ) → crossed m sigma all r (suc c) ≡ crossed m sigma all r c ⊕ get_or sigma c 0 ⊗⟨ m ⟩ get_or all (r - c) 0
+pub crossed-suc : (m : ℕ) (sigma all : List ℕ) (r c : ℕ)
+    → crossed m sigma all r (suc c) ≡ crossed m sigma all r c ⊕ get_or sigma c 0 ⊗⟨ m ⟩ get_or all (r - c) 0
 unfolding crossed
 crossed-suc m sigma all r c = refl
 

@@ -107,7 +107,8 @@ module _ {m : ℕ} (L : IsField m) where
   K = ring_of m L
 
   -- a sum of products of numbers is the sum in the field
-  crossed_number : (p q : Series K) (sigma all : List ℕ) (r c : ℕ) → ((i : ℕ) → i < c → get_or sigma i 0 ≡ (p i).0) → ((i : ℕ) → i ≤ r → get_or all i 0 ≡ (q i).0)
+  crossed_number : (p q : Series K) (sigma all : List ℕ) (r c : ℕ) → ((i : ℕ) → i < c → get_or sigma i 0 ≡ (p i).0)
+      → ((i : ℕ) → i ≤ r → get_or all i 0 ≡ (q i).0)
       → crossed m sigma all r c ≡ (partial K p q r c).0
   crossed_number p q sigma all r zero e f = crossed-zero m sigma all r ∙ ap (λ x. x.0) (sym (partial_zero K p q r))
   crossed_number p q sigma all r (suc c) e f =

@@ -74,7 +74,8 @@ valuing_start {m} {n} {before = before} sigma count is s =
       filled = fill_from _ (n_of m) before (λ i h. s.holds i (omega arith) ∙ sym (value_zero m (power m a (n_of m - i)) sigma 0));
     }
 
-pub valuing_next : {m count j : ℕ} {sigma before middle after : List ℕ} → IsField m → Valuing m sigma count before middle j → j < count → get_or sigma j 0 < 2 ^ m
+pub valuing_next : {m count j : ℕ} {sigma before middle after : List ℕ} → IsField m → Valuing m sigma count before middle j → j < count
+    → get_or sigma j 0 < 2 ^ m
     → Filled (plus_term m (get_or sigma j 0) j middle) (n_of m) middle after → Valuing m sigma count before after (j + 1)
 valuing_next {m} {count} {j} {sigma} L w h b u =
     record {

@@ -139,7 +139,8 @@ module _ {word first places : List ℕ} {count i : ℕ} (B : AreBits word) (s : 
 
   pub listing_next : Listing word first (set places count i) (count + get_or word i 0) (i + 1)
   listing_next =
-      bit_cases (λ b. get_or word i 0 ≡ b → Listing word first (set places count i) (count + b) (i + 1)) listing_zero listing_one (get_or word i 0) (B.at i) refl
+      bit_cases (λ b. get_or word i 0 ≡ b → Listing word first (set places count i) (count + b) (i + 1)) listing_zero listing_one
+      (get_or word i 0) (B.at i) refl
 
 pub listing_done : {word first places : List ℕ} {count i : ℕ} → Listing word first places count i → length word ≤ i
     → length word ≤ length first → Ones word count places

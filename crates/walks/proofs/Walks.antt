@@ -85,7 +85,8 @@ pub four_added : {ws us vs zs : List ℕ} (powers xs : List ℕ) (e f g h j : �
     → zs ≡ plus_four powers e f g h j xs
 four_added powers xs e f g h j p q r s =
     s
-    ∙ ap (λ l. plus_at l (j + 3) (get_or powers h 0)) (r ∙ ap (λ l. plus_at l (j + 2) (get_or powers g 0)) (q ∙ ap (λ l. plus_at l (j + 1) (get_or powers f 0)) p))
+    ∙ ap (λ l. plus_at l (j + 3) (get_or powers h 0))
+    (r ∙ ap (λ l. plus_at l (j + 2) (get_or powers g 0)) (q ∙ ap (λ l. plus_at l (j + 1) (get_or powers f 0)) p))
 
 -- the exponents of two, three and four steps, brought below n
 pub record Strides (m step n two three four : ℕ) : Type 0 where

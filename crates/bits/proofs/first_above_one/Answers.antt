@@ -13,7 +13,8 @@ use Rattle.bits.proofs.first_above_one.Goals as goal
 here : (s : List ℕ) (i : ℕ) → i < length s → first_above s ≡ i + first_above (drop i s) → 1 < get_or s i 0 → i ≡ first_above s
 here s i h e k = sym (e ∙ rw (drop-cons s i 0 h, first_above_above (drop (suc i) s) k) (add-zero i))
 
-further : (s : List ℕ) (i : ℕ) → i < length s → first_above s ≡ i + first_above (drop i s) → get_or s i 0 ≤ 1 → first_above s ≡ i + 1 + first_above (drop (i + 1) s)
+further : (s : List ℕ) (i : ℕ) → i < length s → first_above s ≡ i + first_above (drop i s) → get_or s i 0 ≤ 1
+    → first_above s ≡ i + 1 + first_above (drop (i + 1) s)
 further s i h e k = e ∙ rw (drop-cons s i 0 h, first_above_bit (drop (suc i) s) k, add-one i) (omega arith)
 
 none : (s : List ℕ) (i : ℕ) → length s ≤ i → first_above s ≡ i + first_above (drop i s) → i ≡ first_above s

@@ -39,9 +39,6 @@ all {first} {places} f h = f.is ∙ ap (λ (n : ℕ). flipped first (take n plac
 pub loop-i-init : goal.loop-i-init
 loop-i-init c = record { bits = c.requires.0; listed = c.requires.1; below = c.requires.2; same = omega arith; within = omega arith; is = sym (flipped-nil _) }
 
-pub overflow_cast-p : goal.overflow_cast-p
-overflow_cast-p c = omega (arith, c.shared_slice_known-1.given c.loop-i.i)
-
 pub bounds-dst-p : goal.bounds-dst-p
 bounds-dst-p c = place c.loop-i.invariant c.loop-i-test.true
 

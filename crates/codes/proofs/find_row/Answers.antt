@@ -41,9 +41,6 @@ loop-row-init c = record { is = c.requires.0; within = c.requires.1; most = c.re
 pub bounds-ts-row : goal.bounds-ts-row
 bounds-ts-row c = omega (arith, ap length c.loop-row.invariant.is, ts_long)
 
-pub overflow_cast-ts : goal.overflow_cast-ts
-overflow_cast-ts c = omega (arith, c.shared_slice_known-1.given c.loop-row.row)
-
 pub returns-then-ts-row : goal.returns-then-ts-row
 returns-then-ts-row c = here c.loop-row.invariant c.loop-row-test.true c.if-ts-row.true
 

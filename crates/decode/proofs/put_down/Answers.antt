@@ -25,9 +25,10 @@ put_list-requires c =
 
 pub returns : goal.returns
 returns c =
+    let whole = copied_whole c.args.word.now c.args.bits.now _ c.requires.same_long c.copy_at.auto.dst c.copy_at.ensures in
     record {
       is_done = refl;
       counts = sym (length-take-le c.args.count c.args.places.now c.requires.within);
-      is_word = c.flip_all.ensures ∙ ap (λ (xs : List ℕ). flipped xs (take c.args.count c.args.places.now)) (copied_whole c.args.word.now c.args.bits.now _ c.requires.same_long c.copy_at.auto.dst c.copy_at.ensures);
+      is_word = c.flip_all.ensures ∙ ap (λ (xs : List ℕ). flipped xs (take c.args.count c.args.places.now)) whole;
       is_list = c.put_list.ensures;
     }

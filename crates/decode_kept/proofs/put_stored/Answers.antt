@@ -8,14 +8,19 @@ use borrow.Author.Rules.{rules}
 use Rattle.decode_kept.proofs.put_stored.Goals as goal
 
 pub slice_bounds-bits-end : goal.slice_bounds-bits-end
-slice_bounds-bits-end c = omega (arith, (let h : length c.args.stored.bits ≡ 1023 = search rules in h), c.requires.ready.known.small)
+slice_bounds-bits-end c =
+    let long : length c.args.stored.bits ≡ 1023 = search rules in
+    omega (arith, c.requires.ready.known.small)
 
 pub slice_bounds-put_down-end : goal.slice_bounds-put_down-end
-slice_bounds-put_down-end c = sym (length-take-le c.args.code.n c.args.stored.bits (omega (arith, (let h : length c.args.stored.bits ≡ 1023 = search rules in h), c.requires.ready.known.small)))
+slice_bounds-put_down-end c =
+    let long : length c.args.stored.bits ≡ 1023 = search rules in
+    sym (length-take-le c.args.code.n c.args.stored.bits (omega (arith, c.requires.ready.known.small)))
 
 pub put_down-requires : goal.put_down-requires
 put_down-requires c =
-    stored_can_put c.requires (length-take-le c.args.code.n c.args.stored.bits (omega (arith, (let h : length c.args.stored.bits ≡ 1023 = search rules in h), c.requires.ready.known.small)))
+    let long : length c.args.stored.bits ≡ 1023 = search rules in
+    stored_can_put c.requires (length-take-le c.args.code.n c.args.stored.bits (omega (arith, c.requires.ready.known.small)))
 
 pub returns : goal.returns
 returns c =

@@ -33,19 +33,28 @@ reduce-requires c =
     let p = c.requires in
     (subst AreBits (sym (copied_front _ c.args.word.now _ c.copy_at.ensures)) p.word_bits, p.g_bits, p.g_long, p.g_top)
 
+-- what is left of the word is as long as the copy, so it reaches over the parity
+reached : {d : ℕ} (copy word left : List ℕ) → length left ≡ length copy → copy ≡ word → d ≤ length word → d ≤ length left
+reached copy word left s e h = rw (s ∙ ap length e) h
+
 pub slice_bounds-space-end-2 : goal.slice_bounds-space-end-2
 slice_bounds-space-end-2 c =
-    reaches _ (c.reduce.new.word) (drop (length c.args.word.now) c.copy_at.new.dst) (let h : c.args.d ≤ length (c.reduce.new.word) = rw (c.reduce.auto.word ∙ ap length (copied_front _ c.args.word.now _ c.copy_at.ensures)) c.requires.fits in h)
+    let e = copied_front _ c.args.word.now _ c.copy_at.ensures in
+    reaches _ c.reduce.new.word _ (reached _ _ _ c.reduce.auto.word e c.requires.fits)
 
 pub slice_bounds-add_at-end : goal.slice_bounds-add_at-end
 slice_bounds-add_at-end c =
-    sym (front_long _ (c.reduce.new.word) (drop (length c.args.word.now) c.copy_at.new.dst) (let h : c.args.d ≤ length (c.reduce.new.word) = rw (c.reduce.auto.word ∙ ap length (copied_front _ c.args.word.now _ c.copy_at.ensures)) c.requires.fits in h))
+    let e = copied_front _ c.args.word.now _ c.copy_at.ensures in
+    sym (front_long _ c.reduce.new.word _ (reached _ _ _ c.reduce.auto.word e c.requires.fits))
 
 pub add_at-requires : goal.add_at-requires
 add_at-requires c =
-    omega (arith, front_long _ (c.reduce.new.word) (drop (length c.args.word.now) c.copy_at.new.dst) (let h : c.args.d ≤ length (c.reduce.new.word) = rw (c.reduce.auto.word ∙ ap length (copied_front _ c.args.word.now _ c.copy_at.ensures)) c.requires.fits in h), c.requires.fits)
+    let e = copied_front _ c.args.word.now _ c.copy_at.ensures in
+    let rest = drop (length c.args.word.now) c.copy_at.new.dst in
+    omega (arith, front_long _ c.reduce.new.word rest (reached _ _ _ c.reduce.auto.word e c.requires.fits), c.requires.fits)
 
 pub returns : goal.returns
 returns c =
-    with_parity c.requires.word_bits (divided (copied_front _ c.args.word.now _ c.copy_at.ensures) c.reduce.ensures) (c.reduce.auto.word ∙ ap length (copied_front _ c.args.word.now _ c.copy_at.ensures)) c.requires.fits
-    (c.add_at.ensures ∙ ap (added_at c.args.word.now 0) (front _ (c.reduce.new.word) (drop (length c.args.word.now) c.copy_at.new.dst) (let h : c.args.d ≤ length (c.reduce.new.word) = rw (c.reduce.auto.word ∙ ap length (copied_front _ c.args.word.now _ c.copy_at.ensures)) c.requires.fits in h)))
+    let e = copied_front _ c.args.word.now _ c.copy_at.ensures in
+    with_parity c.requires.word_bits (divided e c.reduce.ensures) (c.reduce.auto.word ∙ ap length e) c.requires.fits
+    (c.add_at.ensures ∙ ap (added_at c.args.word.now 0) (front _ c.reduce.new.word _ (reached _ _ _ c.reduce.auto.word e c.requires.fits)))

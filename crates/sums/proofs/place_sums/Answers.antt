@@ -9,10 +9,6 @@ clear_first-requires c = c.requires.4
 pub loop-i-init : goal.loop-i-init
 loop-i-init c = (omega arith, placing_start _ c.clear_first.ensures)
 
-pub overflow_cast-p : goal.overflow_cast-p
-overflow_cast-p c =
-    omega (arith, c.shared_slice_known-2-1.given c.loop-i.i)
-
 pub add_place-requires : goal.add_place-requires
 add_place-requires c = (
   c.requires.0,

@@ -4,9 +4,6 @@ use Rattle.field.proofs.Exponents.{logarithm}
 use Rattle.walks.proofs.Walks.{multiples_added, multiples_skipped}
 use Rattle.walks.proofs.add_multiples.Goals as goal
 
-pub overflow_cast-from-then-s-ne0 : goal.overflow_cast-from-then-s-ne0
-overflow_cast-from-then-s-ne0 c = omega (arith, c.shared_slice_known-then-s-ne0-1.given c.args.s)
-
 pub add_walk-requires : goal.add_walk-requires
 add_walk-requires c =
     let l = logarithm c.requires.0 c.requires.1 c.if-s-ne0.true in

@@ -16,15 +16,28 @@ pub overflow_mul-one : goal.overflow_mul-one
 overflow_mul-one c = let z = sizes c.requires.0 in omega (arith, around_below c.requires.0 c.args.step c.n_of-n.ensures c.around-one.ensures)
 
 pub around-two-requires : goal.around-two-requires
-around-two-requires c = let z = sizes c.requires.0 in omega (arith, around_below c.requires.0 c.args.step c.n_of-n.ensures c.around-one.ensures, c.n_of-n.ensures)
+around-two-requires c =
+    let z = sizes c.requires.0 in
+    omega (arith, around_below c.requires.0 c.args.step c.n_of-n.ensures c.around-one.ensures, c.n_of-n.ensures)
 
 pub overflow_add-two : goal.overflow_add-two
-overflow_add-two c = let z = sizes c.requires.0 in omega (arith, around_below c.requires.0 c.args.step c.n_of-n.ensures c.around-one.ensures, around_below c.requires.0 (2 * c.around-one.result) c.n_of-n.ensures c.around-two.ensures)
+overflow_add-two c =
+    let z = sizes c.requires.0 in
+    omega (
+      arith,
+      around_below c.requires.0 c.args.step c.n_of-n.ensures c.around-one.ensures,
+      around_below c.requires.0 (2 * c.around-one.result) c.n_of-n.ensures c.around-two.ensures,
+    )
 
 pub around-three-requires : goal.around-three-requires
 around-three-requires c =
     let z = sizes c.requires.0 in
-    omega (arith, around_below c.requires.0 c.args.step c.n_of-n.ensures c.around-one.ensures, around_below c.requires.0 (2 * c.around-one.result) c.n_of-n.ensures c.around-two.ensures, c.n_of-n.ensures)
+    omega (
+      arith,
+      around_below c.requires.0 c.args.step c.n_of-n.ensures c.around-one.ensures,
+      around_below c.requires.0 (2 * c.around-one.result) c.n_of-n.ensures c.around-two.ensures,
+      c.n_of-n.ensures,
+    )
 
 pub overflow_mul-two : goal.overflow_mul-two
 overflow_mul-two c = let z = sizes c.requires.0 in omega (arith, around_below c.requires.0 (2 * c.around-one.result) c.n_of-n.ensures c.around-two.ensures)

@@ -35,6 +35,6 @@ returns-then-in_stretch-stretch c =
 pub returns : goal.returns
 returns c =
     let within = sym c.runs_past-past.ensures ∙ c.if-past.false in
-    let good = no_bad_bit _ c.first_above_one-in_word.ensures c.if-in_word-word.false in
-    let all-good = no_bad_bit _ c.first_above_one-in_stretch.ensures c.if-in_stretch-stretch.false in
-    then_passes c.in-Passes.is c.look_up-look.ensures (rw (equal c.if-word-code.false, within, good, all-good))
+    let word_good = no_bad_bit _ c.first_above_one-in_word.ensures c.if-in_word-word.false in
+    let stretch_good = no_bad_bit _ c.first_above_one-in_stretch.ensures c.if-in_stretch-stretch.false in
+    then_passes c.in-Passes.is c.look_up-look.ensures (rw (equal c.if-word-code.false, within, word_good, stretch_good))

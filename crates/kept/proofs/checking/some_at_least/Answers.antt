@@ -5,9 +5,6 @@ use Rattle.kept.proofs.checking.some_at_least.Goals as goal
 pub loop-i-init : goal.loop-i-init
 loop-i-init c = looking_start _ _
 
-pub overflow_cast-x : goal.overflow_cast-x
-overflow_cast-x c = omega (arith, c.shared_slice_known-1.given c.loop-i.i)
-
 pub returns-then-bound-x : goal.returns-then-bound-x
 returns-then-bound-x c = looking_high c.loop-i.invariant c.loop-i-test.true c.if-bound-x.true
 
