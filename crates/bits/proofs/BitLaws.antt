@@ -7,7 +7,7 @@ use Prim.Native.Nat.{ℕ, zero, suc, ◌+◌, ◌-◌, ◌*◌, ◌≤◌, ◌<�
 use native.Mathlib.Nat.{le_antisymm, zero-add, suc-add, lt_of_not-le, suc_inj, zero-mul, one-mul, mul-zero}
 use native.Mathlib.Decide.{dec_le}
 use native.Mathlib.Omega.{arith}
-use borrow.Author.Tests.{lt-ltb, le-ltb, ltb-false}
+use borrow.Author.Tests.{le-ltb, ltb-false}
 use lib.Bits.{bit_xor, xor_lt, xor_zero_r, xor_self, xor_comm}
 use lib.Dec.{T, leb, leb→le}
 use lib.ListN.{length, get_or, set, take, drop, replicate, length-set, length-replicate, length-map, get_or-eq_default}
@@ -371,10 +371,3 @@ not_bad {xs} b = le-ltb (first_above xs) (length xs) (omega (arith, first_above_
 
 pub bits_of_not_bad : (xs : List ℕ) → has_bad_bit xs ≡ false → AreBits xs
 bits_of_not_bad xs e = all_bits xs refl (ltb-false (first_above xs) (length xs) e)
-
--- the check of lent bits, by the first place that holds more than 1
-pub bad_bit_lem : (xs : List ℕ) {p : ℕ} → p ≡ first_above xs → p < length xs → has_bad_bit xs ≡ true
-bad_bit_lem xs e h = lt-ltb (first_above xs) (length xs) (rw (← e) h)
-
-pub no_bad_bit : (xs : List ℕ) {p : ℕ} → p ≡ first_above xs → length xs ≤ p → has_bad_bit xs ≡ false
-no_bad_bit xs e h = le-ltb (first_above xs) (length xs) (rw (← e) h)

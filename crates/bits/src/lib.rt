@@ -2,24 +2,17 @@
 
 #![tactic(auto)]
 
-ghost use Rattle.std.specs.Prelude.{◌≡◌, ℕ, ◌+◌, ◌≤◌, ◌<◌, length, take, replicate};
+ghost use Rattle.std.specs.Prelude.{◌≡◌, true, false, MatchOption, ℕ, ◌+◌, ◌≤◌, ◌<◌, length, take, replicate};
 ghost use mathlib.Core.List.{Memᴰ};
 ghost use Rattle.std.proofs.Math.Seq.{paste};
-ghost use Rattle.bits.specs.Bits.{AreBits, first_above, runs_past, flipped};
+ghost use Rattle.bits.specs.Bits.{AreBits, first_above, has_bad_bit, runs_past, flipped};
 ghost use Rattle.bits.specs.Work.{added_at};
 
-// The first place that holds more than 1, or the length where there is none.
-pub fn first_above_one(s: &[u8]) -> usize
-    ensures { result ≡ first_above s.now }
+// The first place that holds more than 1, if there is one.
+pub fn first_above_one(s: &[u8]) -> Option<usize>
+    ensures { MatchOption result (has_bad_bit s.now ≡ false) (λ place. (has_bad_bit s.now ≡ true) × (place ≡ first_above s.now)) }
 {
-    let mut i = 0;
-    while i < s.len() {
-        if 1 < s[i] {
-            return i;
-        }
-        i += 1;
-    }
-    i
+    s.iter().position(|bit| 1 < *bit)
 }
 
 // Adds src into dst from place `at` on.
@@ -27,10 +20,8 @@ pub fn add_at(dst: &mut [u8], at: usize, src: &[u8])
     requires { at + length src.now ≤ length dst.old }
     ensures { dst.new ≡ added_at dst.old at src.now }
 {
-    let mut i = 0;
-    while i < src.len() {
-        dst[at + i] = dst[at + i] ^ src[i];
-        i += 1;
+    for (i, bit) in src.iter().enumerate() {
+        dst[at + i] ^= *bit;
     }
 }
 
@@ -39,41 +30,25 @@ pub fn copy_at(dst: &mut [u8], at: usize, src: &[u8])
     requires { at + length src.now ≤ length dst.old }
     ensures { dst.new ≡ paste dst.old at src.now (length src.now) }
 {
-    let mut i = 0;
-    while i < src.len() {
-        dst[at + i] = src[i];
-        i += 1;
-    }
+    let end = at + src.len();
+    dst[at..end].copy_from_slice(src);
 }
 
 pub fn clear(dst: &mut [u8])
     ensures { dst.new ≡ replicate (length dst.old) 0 }
 {
-    let mut i = 0;
-    while i < dst.len() {
-        dst[i] = 0;
-        i += 1;
-    }
+    dst.fill(0);
 }
 
-// Turns over the bits at the first `count` places of the list.
-pub fn flip_all(dst: &mut [u8], places: &[u16], count: usize)
-    requires { AreBits dst.old × (count ≤ length places.now) × ((p : ℕ) → Memᴰ p (take count places.now) → p < length dst.old) }
-    ensures { dst.new ≡ flipped dst.old (take count places.now) }
+// Turns over the bits at the places.
+pub fn flip_all(dst: &mut [u8], places: &[u16])
+    requires { AreBits dst.old × ((p : ℕ) → Memᴰ p places.now → p < length dst.old) }
+    ensures { dst.new ≡ flipped dst.old places.now }
 {
-    let mut i = 0;
-    while i < count {
-        let p = places[i] as usize;
+    for place in places {
+        let p = usize::from(*place);
         dst[p] = 1 - dst[p];
-        i += 1;
     }
-}
-
-// Room for any word and any generator.
-pub fn word_space() -> [u8; 1024]
-    ensures { result ≡ replicate 1024 0 }
-{
-    [0; 1024]
 }
 
 // Whether a stretch of `long` places from `start` on runs past the end. `start` and `long` are not added, since the sum could wrap.

@@ -8,6 +8,7 @@ use Rattle.codec.specs.Describe.{Describes}
 use Rattle.codec.specs.Encode.{Encodes}
 use Rattle.codec.specs.Edit.{Edits}
 use Rattle.decode.specs.Decode.{Decodes}
+use Rattle.kept.specs.Record.{zero_kept}
 use Rattle.kept.specs.Open.{Opens}
 use Rattle.splice.specs.Splice.{Splices}
 use Rattle.decode_kept.specs.DecodeKept.{DecodesKept}
@@ -47,10 +48,10 @@ abbrev pub EditsAs : ℕ → ℕ → List ℕ → ℕ → List ℕ → Told → 
 EditsAs m t lent start stretch r left = LaidOut outcome_told (λ answer. Edits m t lent start stretch answer left) r
 
 abbrev pub OpensAs : ℕ → ℕ → List ℕ → KeptAnswer → Type 0
-OpensAs m t word = LaidOut kept_answer (Opens m t word)
+OpensAs m t word = LaidOut (kept_answer zero_kept) (Opens m t word)
 
 abbrev pub SplicesAs : Record → ℕ → List ℕ → KeptAnswer → Type 0
-SplicesAs stored start stretch = LaidOut kept_answer (Splices (kept_of stored) start stretch)
+SplicesAs stored start stretch = LaidOut (kept_answer (kept_of stored)) (Splices (kept_of stored) start stretch)
 
 abbrev pub DecodesKeptAs : Record → List ℕ → List ℕ → DecodeKeptAnswer → List ℕ → List ℕ → Type 0
 DecodesKeptAs stored lentWord lentList r word list =

@@ -6,14 +6,14 @@ ghost use Rattle.std.specs.Prelude.{◌≡◌, ◌≤◌};
 ghost use Rattle.blentovar.specs.Answers.{SizesAs, DescribesAs, EncodesAs, DecodesAs, EditsAs, OpensAs, SplicesAs, DecodesKeptAs, MakesAs, ReadsAs};
 ghost use Rattle.blentovar.specs.Answers.{LooksAs, ReadsBookAs, WritesBookAs};
 ghost use Rattle.blentovar.specs.Layout.{sizes_answer, decode_answer, laid_out, kept_of, kept_answer, decode_kept_answer, read_answer, look_answer, part_answer};
+ghost use Rattle.book.specs.Read.{span_of};
 
-use book::{Found, Looked};
+use book::Found;
 use codec::Described;
-use decode::Decoded;
 use frame::ReadFrame;
-use kept::{Answer, Kept};
+use kept::Kept;
 use layout::Reading;
-use sheet::Told;
+use sheet::{Refusal, Told};
 
 // The sheet's number, 0 where nothing is refused, and n and k.
 #[repr(C)]
@@ -96,143 +96,160 @@ pub struct PartAnswer {
     pub length: usize,
 }
 
-fn sizes_answer(given: Described) -> SizesAnswer
-    ensures { result ≡ sizes_answer given }
-{
-    let outcome = given.outcome;
-    SizesAnswer {
-        number: sheet::outcome_number(outcome),
-        zero_after_number: 0,
-        n: given.n,
-        k: given.k,
+impl From<Result<Described, Refusal>> for SizesAnswer {
+    ghost from_gives = { λ given answer. answer ≡ sizes_answer given };
+
+    fn from(given: Result<Described, Refusal>) -> SizesAnswer {
+        let number = sheet::outcome_number(&given);
+        let Described { n, k } = given.unwrap_or(Described { n: 0, k: 0 });
+        SizesAnswer {
+            number,
+            zero_after_number: 0,
+            n,
+            k,
+        }
     }
 }
 
-fn decode_answer(given: Decoded) -> DecodeAnswer
-    ensures { result ≡ decode_answer given }
-{
-    let outcome = given.outcome;
-    let told = sheet::tell_outcome(outcome);
-    DecodeAnswer {
-        number: told.number,
-        buffer: told.buffer,
-        place: told.place,
-        wrong: given.wrong,
+impl From<Result<usize, Refusal>> for DecodeAnswer {
+    ghost from_gives = { λ given answer. answer ≡ decode_answer given };
+
+    fn from(given: Result<usize, Refusal>) -> DecodeAnswer {
+        let told = sheet::tell_outcome(&given);
+        DecodeAnswer {
+            number: told.number,
+            buffer: told.buffer,
+            place: told.place,
+            wrong: given.unwrap_or(0),
+        }
     }
 }
 
-fn laid_out(kept: Kept) -> Record
-    ensures { result ≡ laid_out kept }
-{
-    let bits = kept.bits;
-    let sums = kept.sums;
-    Record {
-        m: kept.m,
-        t: kept.t,
-        bits,
-        zero_after_bits: 0,
-        sums,
-        zero_after_sums: 0,
+impl From<Kept> for Record {
+    ghost from_gives = { λ kept laid. laid ≡ laid_out kept };
+
+    fn from(kept: Kept) -> Record {
+        let Kept { m, t, bits, sums } = kept;
+        Record {
+            m,
+            t,
+            bits,
+            zero_after_bits: 0,
+            sums,
+            zero_after_sums: 0,
+        }
     }
 }
 
-// What stands in the fields that come back as 0 is not looked at.
-fn kept_of(stored: Record) -> Kept
-    ensures { result ≡ kept_of stored }
-{
-    let bits = stored.bits;
-    let sums = stored.sums;
-    Kept {
-        m: stored.m,
-        t: stored.t,
-        bits,
-        sums,
+impl From<Record> for Kept {
+    ghost from_gives = { λ stored kept. kept ≡ kept_of stored };
+
+    // What stands in the fields that come back as 0 is not looked at.
+    fn from(stored: Record) -> Kept {
+        let Record {
+            m,
+            t,
+            bits,
+            sums,
+            ..
+        } = stored;
+        Kept { m, t, bits, sums }
     }
 }
 
-fn kept_answer(given: Answer) -> KeptAnswer
-    ensures { result ≡ kept_answer given }
+// `otherwise` is the record that comes back where there is no new one.
+fn kept_answer(otherwise: Kept, given: Result<Kept, Refusal>) -> KeptAnswer
+    ensures { result ≡ kept_answer otherwise given }
 {
-    let outcome = given.outcome;
-    let record = given.record;
-    let told = sheet::tell_outcome(outcome);
+    let told = sheet::tell_outcome(&given);
     KeptAnswer {
         number: told.number,
         buffer: told.buffer,
         place: told.place,
-        record: laid_out(record),
+        record: Record::from(given.unwrap_or(otherwise)),
     }
 }
 
-fn decode_kept_answer(given: Decoded) -> DecodeKeptAnswer
-    ensures { result ≡ decode_kept_answer given }
-{
-    let outcome = given.outcome;
-    DecodeKeptAnswer {
-        number: sheet::outcome_number(outcome),
-        zero_after_number: 0,
-        wrong: given.wrong,
+impl From<Result<usize, Refusal>> for DecodeKeptAnswer {
+    ghost from_gives = { λ given answer. answer ≡ decode_kept_answer given };
+
+    fn from(given: Result<usize, Refusal>) -> DecodeKeptAnswer {
+        DecodeKeptAnswer {
+            number: sheet::outcome_number(&given),
+            zero_after_number: 0,
+            wrong: given.unwrap_or(0),
+        }
     }
 }
 
-fn read_answer(given: ReadFrame) -> ReadAnswer
-    ensures { result ≡ read_answer given }
-{
-    let outcome = given.outcome;
-    let reading = given.reading;
-    ReadAnswer {
-        number: sheet::outcome_number(outcome),
-        house: reading.house,
-        poll: reading.poll,
-        counter: reading.counter,
-        wrong: given.wrong,
+impl From<Result<ReadFrame, Refusal>> for ReadAnswer {
+    ghost from_gives = { λ given answer. answer ≡ read_answer given };
+
+    fn from(given: Result<ReadFrame, Refusal>) -> ReadAnswer {
+        let number = sheet::outcome_number(&given);
+        let ReadFrame { reading, wrong } = given.unwrap_or(NO_READING);
+        ReadAnswer {
+            number,
+            house: reading.house,
+            poll: reading.poll,
+            counter: reading.counter,
+            wrong,
+        }
     }
 }
 
-fn look_answer(given: Looked) -> LookAnswer
-    ensures { result ≡ look_answer given }
-{
-    let outcome = given.outcome;
-    LookAnswer {
-        number: sheet::outcome_number(outcome),
-        zero_after_number: 0,
-        count: given.count,
+// What stands for the reading of a refused frame.
+const NO_READING: ReadFrame = ReadFrame {
+    reading: Reading {
+        house: 0,
+        poll: 0,
+        counter: 0,
+    },
+    wrong: 0,
+};
+
+impl From<Result<usize, Refusal>> for LookAnswer {
+    ghost from_gives = { λ given answer. answer ≡ look_answer given };
+
+    fn from(given: Result<usize, Refusal>) -> LookAnswer {
+        LookAnswer {
+            number: sheet::outcome_number(&given),
+            zero_after_number: 0,
+            count: given.unwrap_or(0),
+        }
     }
 }
 
-fn part_answer(given: Found) -> PartAnswer
-    requires { given.from ≤ given.to }
+fn part_answer(given: Result<Found, Refusal>) -> PartAnswer
+    requires { (span_of given).from ≤ (span_of given).to }
     ensures { result ≡ part_answer given }
 {
-    let outcome = given.outcome;
-    let length = given.to - given.from;
+    let number = sheet::outcome_number(&given);
+    let Found { from, to } = given.unwrap_or(Found { from: 0, to: 0 });
     PartAnswer {
-        number: sheet::outcome_number(outcome),
+        number,
         zero_after_number: 0,
-        offset: given.from,
-        length,
+        offset: from,
+        length: to - from,
     }
 }
 
 pub fn blentovar_sizes(m: usize, t: usize) -> SizesAnswer
     ensures { SizesAs m t result }
 {
-    let given = codec::sizes(m, t);
-    sizes_answer(given)
+    SizesAnswer::from(codec::sizes(m, t))
 }
 
 pub fn blentovar_describe(m: usize, t: usize, generator: &mut [u8]) -> SizesAnswer
     ensures { DescribesAs m t generator.old result generator.new }
 {
-    let given = codec::describe(m, t, generator);
-    sizes_answer(given)
+    SizesAnswer::from(codec::describe(m, t, generator))
 }
 
 pub fn blentovar_encode(m: usize, t: usize, message: &[u8], word: &mut [u8]) -> Told
     ensures { EncodesAs m t message.now word.old result word.new }
 {
-    let outcome = codec::encode(m, t, message, word);
-    sheet::tell_outcome(outcome)
+    sheet::tell_outcome(&codec::encode(m, t, message, word))
 }
 
 pub fn blentovar_decode(
@@ -244,38 +261,38 @@ pub fn blentovar_decode(
 ) -> DecodeAnswer
     ensures { DecodesAs m t received.now word.old list.old result word.new list.new }
 {
-    let given = decode::decode(m, t, received, word, list);
-    decode_answer(given)
+    DecodeAnswer::from(decode::decode(m, t, received, word, list))
 }
 
 pub fn blentovar_edit(m: usize, t: usize, word: &mut [u8], start: usize, stretch: &[u8]) -> Told
     ensures { EditsAs m t word.old start stretch.now result word.new }
 {
-    let outcome = codec::edit(m, t, word, start, stretch);
-    sheet::tell_outcome(outcome)
+    sheet::tell_outcome(&codec::edit(m, t, word, start, stretch))
 }
 
 pub fn blentovar_open(m: usize, t: usize, word: &[u8]) -> KeptAnswer
     ensures { OpensAs m t word.now result }
 {
-    let given = kept::open(m, t, word);
-    kept_answer(given)
+    let zeros = Kept {
+        m: 0,
+        t: 0,
+        bits: [0; 1023],
+        sums: [0; 255],
+    };
+    kept_answer(zeros, kept::open(m, t, word))
 }
 
 pub fn blentovar_splice(stored: Record, start: usize, stretch: &[u8]) -> KeptAnswer
     ensures { SplicesAs stored start stretch.now result }
 {
-    let kept = kept_of(stored);
-    let given = splice::splice(kept, start, stretch);
-    kept_answer(given)
+    let kept = Kept::from(stored);
+    kept_answer(kept, splice::splice(kept, start, stretch))
 }
 
 pub fn blentovar_decode_kept(stored: Record, word: &mut [u8], list: &mut [u16]) -> DecodeKeptAnswer
     ensures { DecodesKeptAs stored word.old list.old result word.new list.new }
 {
-    let kept = kept_of(stored);
-    let given = decode_kept::decode_kept(kept, word, list);
-    decode_kept_answer(given)
+    DecodeKeptAnswer::from(decode_kept::decode_kept(Kept::from(stored), word, list))
 }
 
 pub fn blentovar_make_frame(house: u16, poll: u16, counter: u64, frame: &mut [u8]) -> u32
@@ -286,34 +303,29 @@ pub fn blentovar_make_frame(house: u16, poll: u16, counter: u64, frame: &mut [u8
         poll,
         counter,
     };
-    let outcome = frame::make(reading, frame);
-    sheet::outcome_number(outcome)
+    sheet::outcome_number(&frame::make(reading, frame))
 }
 
 pub fn blentovar_read_frame(frame: &[u8]) -> ReadAnswer
     ensures { ReadsAs frame.now result }
 {
-    let given = frame::read(frame);
-    read_answer(given)
+    ReadAnswer::from(frame::read(frame))
 }
 
 pub fn blentovar_look_at_book(book: &[u8]) -> LookAnswer
     ensures { LooksAs book.now result }
 {
-    let given = book::look(book);
-    look_answer(given)
+    LookAnswer::from(book::look(book))
 }
 
 pub fn blentovar_read_book(book: &[u8], i: usize) -> PartAnswer
     ensures { ReadsBookAs book.now i result }
 {
-    let given = book::find(book, i);
-    part_answer(given)
+    part_answer(book::find(book, i))
 }
 
 pub fn blentovar_write_book(frames: &[u8], book: &mut [u8]) -> u32
     ensures { WritesBookAs frames.now book.old result book.new }
 {
-    let outcome = book::write(frames, book);
-    sheet::outcome_number(outcome)
+    sheet::outcome_number(&book::write(frames, book))
 }

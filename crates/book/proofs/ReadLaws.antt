@@ -11,15 +11,16 @@ use lib.Dec.{T, eqb, ltb}
 use lib.ListN.{length, get_or, take, drop, length-drop}
 use lib.Seq.{get_or-take, get_or-drop, ext_get_or, length-take-le, take_all}
 use denote.Ref.{Bor}
-use Rattle.sheet.specs.declared.Outcome.TheVariants.{Done, Refused}
+use Rattle.std.specs.Prelude.{Result, Ok, Err}
+use Rattle.std.specs.Result.{result_unwrap_or}
 use Rattle.sheet.specs.declared.Refusal.{Refusal}
+use Rattle.sheet.specs.Number.{outcome_of}
 use Rattle.sheet.specs.Verdict.{verdict, Promise, Always}
 use Rattle.sheet.specs.Work.{AllPass}
 use Rattle.sheet.proofs.VerdictLaws.{equal, unequal, all_pass, earlier_refuse, earlier_pass, refuses_as, done_passed, answer_is}
 use Rattle.sheet.proofs.VerdictLaws.{Verdict, verdict-cases}
 use Rattle.sheet.proofs.VerdictLaws as VerdictLaws
 use Rattle.book.specs.declared.reading.Found.{Found}
-use Rattle.book.specs.declared.reading.Looked.{Looked}
 use Rattle.book.specs.Book.{mark, frame_start}
 use Rattle.book.specs.Read.{trailer_of, mark_at, has_mark, number_at, count_of, distance_of, last_of, lacks_trailer, size_is_wrong}
 use Rattle.book.specs.Read.{book_checks, number_checks, find_checks, Looks, Span, empty_span, span_of, FrameSpan, Finds, ReadsPart}
@@ -153,43 +154,49 @@ pub record Passes (book : List ℕ) : Type 0 where
   pub has : HasTrailer book
   pub size : RightSize (count_of book) (distance_of book) (length book - 16)
 
-pub passed : (book : List ℕ) → verdict (book_checks book) ≡ Done → Passes book
+pub passed : (book : List ℕ) → verdict (book_checks book) ≡ Ok tt → Passes book
 passed book e =
     let (trailer, (size, t)) = all_pass (book_checks book) e in
     record { has = has_trailer book trailer; size = right_size (count_of book) (distance_of book) (length book - 16) size }
 
 -- looking
 
-pub looked_refused : {book : List ℕ} {answer : Looked} {r : Refusal} → Looks book answer → answer.outcome ≡ Refused r → verdict (book_checks book) ≡ Refused r
-looked_refused {answer = answer} p e = sym (answer_is p) ∙ e
+pub looked_refused : {book : List ℕ} {answer : Result ℕ Refusal} {r : Refusal} → Looks book answer → answer ≡ Err r → verdict (book_checks book) ≡ Err r
+looked_refused p e = sym (answer_is p) ∙ ap outcome_of e
+
+-- the count that a book was found to have
+pub looked_count : {book : List ℕ} {answer : Result ℕ Refusal} {count : ℕ} → Looks book answer → answer ≡ Ok count
+    → (verdict (book_checks book) ≡ Ok tt) × (count ≡ count_of book)
+looked_count p e =
+    let z = done_passed p (ap outcome_of e) in
+    (z, sym (ap (λ (x : Result ℕ Refusal). result_unwrap_or x 0) e) ∙ (p.done z).did.is)
 
 -- the frames of a book that was counted reach back no further than its start
-pub counted_fits : {book : List ℕ} {answer : Looked} → Looks book answer → answer.outcome ≡ Done → 32 * answer.count + 16 ≤ length book
+pub counted_fits : {book : List ℕ} {answer : Result ℕ Refusal} {count : ℕ} → Looks book answer → answer ≡ Ok count → 32 * count + 16 ≤ length book
 counted_fits {book} p e =
-    let z = done_passed p e in
+    let (z, is) = looked_count p e in
     let q = passed book z in
-    omega (arith, (p.done z).did.is, q.has.long, q.size.distance_is, q.size.reaches)
+    omega (arith, is, q.has.long, q.size.distance_is, q.size.reaches)
 
 -- finding
 
-pub found_none : {book : List ℕ} {i : ℕ} {a : Looked} {x : Found} {r : Refusal} → Looks book a → a.outcome ≡ Refused r → x.outcome ≡ Refused r
-    → span_of x ≡ empty_span → Finds book i x
-found_none {book} {i} p e o s = refuses_as (earlier_refuse (book_checks book) (number_checks (count_of book) i) (looked_refused p e)) o s
+pub found_none : {book : List ℕ} {i : ℕ} {a : Result ℕ Refusal} {r : Refusal} → Looks book a → a ≡ Err r → Finds book i (Err r)
+found_none {book} {i} p e = refuses_as (earlier_refuse (book_checks book) (number_checks (count_of book) i) (looked_refused p e)) refl refl
 
-pub found_frame : {book : List ℕ} {i : ℕ} {a : Looked} {x : Found} → Looks book a → a.outcome ≡ Done
-    → Promise (number_checks a.count i) (Always (FrameSpan book a.count i)) empty_span x.outcome (span_of x) → Finds book i x
-found_frame {book} {i} {a} {x} p e q =
-    let z = done_passed p e in
-    let same = (p.done z).did.is in
-    let own = subst (λ (n : ℕ). Promise (number_checks n i) (Always (FrameSpan book n i)) empty_span x.outcome (span_of x)) same q in
+pub found_frame : {book : List ℕ} {i count : ℕ} {a : Result ℕ Refusal} (x : Result Found Refusal) → Looks book a → a ≡ Ok count
+    → Promise (number_checks count i) (Always (FrameSpan book count i)) empty_span (outcome_of x) (span_of x) → Finds book i x
+found_frame {book} {i} {count} {a} x p e q =
+    let (z, same) = looked_count p e in
+    let own = subst (λ (n : ℕ). Promise (number_checks n i) (Always (FrameSpan book n i)) empty_span (outcome_of x) (span_of x)) same q in
     let behind = earlier_pass (book_checks book) (number_checks (count_of book) i) z in
     record { refused = λ r v. own.refused r (sym behind ∙ v); done = λ v. own.done (sym behind ∙ v) }
 
 -- what is found lies in the book
-pub found_within : {book : List ℕ} {i : ℕ} {x : Found} → Finds book i x → (x.from ≤ x.to) × (x.to ≤ length book)
-found_within {book} {i} {x} p = pick (verdict-cases (verdict (find_checks book i)))
+pub found_within : {book : List ℕ} {i : ℕ} (x : Result Found Refusal) → Finds book i x
+    → ((span_of x).from ≤ (span_of x).to) × ((span_of x).to ≤ length book)
+found_within {book} {i} x p = pick (verdict-cases (verdict (find_checks book i)))
   where
-    pick : Verdict (verdict (find_checks book i)) → (x.from ≤ x.to) × (x.to ≤ length book)
+    pick : Verdict (verdict (find_checks book i)) → ((span_of x).from ≤ (span_of x).to) × ((span_of x).to ≤ length book)
     pick (VerdictLaws.refused r e) =
         let s = (p.refused r e).1 in
         let from = ap (λ (s : Span). s.from) s in
@@ -197,7 +204,7 @@ found_within {book} {i} {x} p = pick (verdict-cases (verdict (find_checks book i
         (omega arith, omega arith)
     pick (VerdictLaws.passed e) = frame (all_pass (book_checks book ++ number_checks (count_of book) i) e)
       where
-        frame : AllPass (find_checks book i) → (x.from ≤ x.to) × (x.to ≤ length book)
+        frame : AllPass (find_checks book i) → ((span_of x).from ≤ (span_of x).to) × ((span_of x).to ≤ length book)
         frame (trailer, (size, (number, t))) =
             let few = leb-false (count_of book) i number in
             let s = (p.done e).did in
@@ -205,15 +212,21 @@ found_within {book} {i} {x} p = pick (verdict-cases (verdict (find_checks book i
             let z = right_size (count_of book) (distance_of book) (length book - 16) size in
             (omega (arith, s.starts, s.ends), omega (arith, s.ends, few, h.long, z.distance_is, z.reaches))
 
+-- the part that is cut: the one that was found, or the empty one at the front
+pub cut_at : (x : Result Found Refusal) {cut : Found} → cut ≡ result_unwrap_or x (record { from = 0; to = 0 })
+    → (cut.from ≡ (span_of x).from) × (cut.to ≡ (span_of x).to)
+cut_at (Ok found) e = (ap (λ (f : Found). f.from) e, ap (λ (f : Found). f.to) e)
+cut_at (Err r) e = (ap (λ (f : Found). f.from) e, ap (λ (f : Found). f.to) e)
+
 -- a frame below the count is found, and the part that is read holds its 32 bytes
-pub frame_passes : (book : List ℕ) (i : ℕ) → verdict (book_checks book) ≡ Done → i < count_of book → verdict (find_checks book i) ≡ Done
+pub frame_passes : (book : List ℕ) (i : ℕ) → verdict (book_checks book) ≡ Ok tt → i < count_of book → verdict (find_checks book i) ≡ Ok tt
 frame_passes book i z h = earlier_pass (book_checks book) (number_checks (count_of book) i) z ∙ rw (lt-leb (count_of book) i h)
 
-pub frame_read : {book r : Bor (List ℕ)} {i : ℕ} → ReadsPart book i r → verdict (book_checks book.now) ≡ Done → i < count_of book.now
+pub frame_read : {book r : Bor (List ℕ)} {i : ℕ} → ReadsPart book i r → verdict (book_checks book.now) ≡ Ok tt → i < count_of book.now
     → r.now ≡ take 32 (drop (frame_start book.now (count_of book.now) i) book.now)
 frame_read {book} {i = i} p z h =
     let s = (p.finds.done (frame_passes book.now i z h)).did in
-    let long : p.found.to - p.found.from ≡ 32 = omega (arith, s.starts, s.ends) in
+    let long : (span_of p.found).to - (span_of p.found).from ≡ 32 = omega (arith, s.starts, s.ends) in
     p.part.holds ∙ ap₂ (λ (n from : ℕ). take n (drop from book.now)) long s.starts
 
 -- two books of the same length with the same last 16 bytes
@@ -232,8 +245,8 @@ module _ (book other : List ℕ) (long : length book ≡ length other) (same : t
   same_start i = ap₂ (λ (n c : ℕ). n - 16 - 32 * c + 32 * i) long same_count
 
   -- where a frame is found in one, it is found in the other
-  pub same_finds : {i : ℕ} {x : Found} → Finds book i x → Finds other i x
-  same_finds {i} p =
+  pub same_finds : {i : ℕ} (x : Result Found Refusal) → Finds book i x → Finds other i x
+  same_finds {i} x p =
       let v : verdict (find_checks book i) ≡ verdict (find_checks other i) = rw (same_lack, same_size, same_count) in
       record {
         refused = λ r z. p.refused r (v ∙ z);

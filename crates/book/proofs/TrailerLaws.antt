@@ -7,7 +7,7 @@ use native.Mathlib.Omega.{arith}
 use borrow.Author.Tests.{le-ltb}
 use lib.ListN.{length, get_or, take, drop, length-append, length-drop}
 use lib.Seq.{get_or-drop, take-add, drop-append-add, drop_at, take_all}
-use Rattle.sheet.specs.declared.Outcome.TheVariants.{Done}
+use Rattle.std.specs.Prelude.{Ok}
 use Rattle.sheet.specs.Verdict.{verdict}
 use Rattle.sheet.proofs.VerdictLaws.{equal, none_refuses}
 use Rattle.book.specs.Book.{four_bytes, trailer, IsBook, AreBytes}
@@ -50,7 +50,7 @@ module _ {book : List ℕ} {count : ℕ} (b : IsBook book count) where
   pub book_count : count_of book ≡ count
   book_count = ap (λ (l : List ℕ). number_at l 4) b.ends ∙ trailer_count count (omega (arith, b.few))
 
-  pub book_passes : verdict (book_checks book) ≡ Done
+  pub book_passes : verdict (book_checks book) ≡ Ok tt
   book_passes =
       let long : 16 ≤ length book = omega (arith, b.reaches) in
       let distance : distance_of book ≡ 32 * count =

@@ -8,25 +8,25 @@ use lib.ListN.{length, take}
 use lib.Seq.{paste, take_all, take-length, take-paste, length-paste}
 use Rattle.book.specs.Book.{mark, four_bytes, trailer}
 use Rattle.sheet.specs.declared.Refusal.TheVariants.{OutputLength, FrameLength, BookSize}
-use Rattle.sheet.specs.declared.Outcome.TheVariants.{Done, Refused}
+use Rattle.std.specs.Prelude.{Ok, Err}
 use Rattle.sheet.specs.Verdict.{verdict}
 use Rattle.sheet.proofs.VerdictLaws.{equal, unequal}
 use Rattle.book.specs.Write.{frame_count, write_checks, Written}
 
 -- the checks, each with those before it
 
-pub too_many : (frames lent : List ℕ) → 32000 < length frames → verdict (write_checks frames lent) ≡ Refused BookSize
+pub too_many : (frames lent : List ℕ) → 32000 < length frames → verdict (write_checks frames lent) ≡ Err BookSize
 too_many frames lent h = rw (lt-ltb 32000 (length frames) h)
 
-pub no_frames : (frames lent : List ℕ) → length frames ≤ 32000 → (length frames % 32 ≡ 0 → ⊥) → verdict (write_checks frames lent) ≡ Refused FrameLength
+pub no_frames : (frames lent : List ℕ) → length frames ≤ 32000 → (length frames % 32 ≡ 0 → ⊥) → verdict (write_checks frames lent) ≡ Err FrameLength
 no_frames frames lent h n = rw (le-ltb 32000 (length frames) h, unequal n)
 
 pub wrong_room : (frames lent : List ℕ) → length frames ≤ 32000 → length frames % 32 ≡ 0 → (length lent ≡ 32 * frame_count frames + 16 → ⊥)
-    → verdict (write_checks frames lent) ≡ Refused OutputLength
+    → verdict (write_checks frames lent) ≡ Err OutputLength
 wrong_room frames lent h e n = rw (le-ltb 32000 (length frames) h, equal e, unequal n)
 
 pub write_passes : (frames lent : List ℕ) → length frames ≤ 32000 → length frames % 32 ≡ 0 → length lent ≡ 32 * frame_count frames + 16
-    → verdict (write_checks frames lent) ≡ Done
+    → verdict (write_checks frames lent) ≡ Ok tt
 write_passes frames lent h e l = rw (le-ltb 32000 (length frames) h, equal e, equal l)
 
 -- the numbers

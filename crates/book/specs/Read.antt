@@ -1,10 +1,12 @@
 -- Looking at a book and reading a frame of it. docs/SCOPE.md 4.13: "Gives the count of frames."; 4.14: "Gives the part of the book in which frame i stands, the
 -- very 32 bytes and no copy." 5.2: their checks are 13, 14 and 13, 14, 15.
-use Rattle.std.specs.Prelude.{◌≡◌, Bool, not, ◌&&◌, ◌||◌, List, [], ◌∷◌, ◌++◌, ℕ, ◌+◌, ◌-◌, ◌*◌, ◌^◌, eqb, leb, ltb, length, get_or, take, drop}
+use Rattle.std.specs.Prelude.{◌≡◌, Bool, not, ◌&&◌, ◌||◌, List, [], ◌∷◌, ◌++◌, ℕ, ◌+◌, ◌-◌, ◌*◌, ◌^◌, eqb, leb, ltb, length, get_or, take, drop, Result, Ok, Err}
 use Rattle.std.specs.Borrow.{Bor}
+use Rattle.std.specs.Result.{result_unwrap_or}
+use Rattle.sheet.specs.declared.Refusal.{Refusal}
 use Rattle.sheet.specs.declared.Refusal.TheVariants.{NoTrailer, BookSize, NoSuchFrame}
+use Rattle.sheet.specs.Number.{outcome_of}
 use Rattle.sheet.specs.Verdict.{Check, ◌⇒◌, Promise, Always}
-use Rattle.book.specs.declared.reading.Looked.{Looked}
 use Rattle.book.specs.declared.reading.Found.{Found}
 use Rattle.book.specs.Book.{mark, frame_start}
 
@@ -54,32 +56,33 @@ number_checks count i = leb count i ⇒ NoSuchFrame ∷ []
 abbrev pub find_checks : List ℕ → ℕ → List Check
 find_checks book i = book_checks book ++ number_checks (count_of book) i
 
--- looking: a refusal has 0 beside it
+-- looking: a refusal gives no count, and 0 stands for it
 pub record Counted (book : List ℕ) (count : ℕ) : Type 0 where
   pub is : count ≡ count_of book
 
-abbrev pub Looks : List ℕ → Looked → Type 0
-Looks book answer = Promise (book_checks book) (Always (Counted book)) 0 answer.outcome answer.count
+abbrev pub Looks : List ℕ → Result ℕ Refusal → Type 0
+Looks book answer = Promise (book_checks book) (Always (Counted book)) 0 (outcome_of answer) (result_unwrap_or answer 0)
 
 -- a part of a book: where it starts and where it ends
 pub record Span : Type 0 where
   pub from : ℕ
   pub to : ℕ
 
--- a refusal gives the empty part at the front
+-- a refusal names no part, and the empty one at the front stands for it
 abbrev pub empty_span : Span
 empty_span = record { from = 0; to = 0 }
 
-abbrev pub span_of : Found → Span
-span_of answer = record { from = answer.from; to = answer.to }
+abbrev pub span_of : Result Found Refusal → Span
+span_of (Ok found) = record { from = found.from; to = found.to }
+span_of (Err r) = empty_span
 
 -- frame i of so many: from where it starts to where the next one starts
 pub record FrameSpan (book : List ℕ) (count i : ℕ) (span : Span) : Type 0 where
   pub starts : span.from ≡ frame_start book count i
   pub ends : span.to ≡ frame_start book count (i + 1)
 
-abbrev pub Finds : List ℕ → ℕ → Found → Type 0
-Finds book i answer = Promise (find_checks book i) (Always (FrameSpan book (count_of book) i)) empty_span answer.outcome (span_of answer)
+abbrev pub Finds : List ℕ → ℕ → Result Found Refusal → Type 0
+Finds book i answer = Promise (find_checks book i) (Always (FrameSpan book (count_of book) i)) empty_span (outcome_of answer) (span_of answer)
 
 -- r is a part of s, the very bytes: what they hold, and where they lie, which is so many bytes on in the same block
 pub record Part (s : Bor (List ℕ)) (from to : ℕ) (r : Bor (List ℕ)) : Type 0 where
@@ -88,6 +91,6 @@ pub record Part (s : Bor (List ℕ)) (from to : ℕ) (r : Bor (List ℕ)) : Type
 
 -- reading: the part of the lent book that an answer of finding it names
 pub record ReadsPart (book : Bor (List ℕ)) (i : ℕ) (r : Bor (List ℕ)) : Type 0 where
-  pub found : Found
+  pub found : Result Found Refusal
   pub finds : Finds book.now i found
-  pub part : Part book found.from found.to r
+  pub part : Part book (span_of found).from (span_of found).to r

@@ -1,7 +1,7 @@
 -- Writing a book. docs/SCOPE.md 4.15: "The buffer then holds the frames and the trailer." 5.2: its checks are 14, 9, 4.
 use Rattle.std.specs.Prelude.{◌≡◌, not, List, [], ◌∷◌, ◌++◌, ℕ, ◌+◌, ◌*◌, ◌/◌, ◌%◌, eqb, ltb, length}
 use Rattle.sheet.specs.declared.Refusal.TheVariants.{OutputLength, FrameLength, BookSize}
-use Rattle.sheet.specs.declared.Outcome.{Outcome}
+use Rattle.sheet.specs.Number.{Outcome}
 use Rattle.sheet.specs.Verdict.{Check, ◌⇒◌, Promise, Always}
 use Rattle.book.specs.Book.{trailer}
 

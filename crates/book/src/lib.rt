@@ -6,5 +6,5 @@ mod mark;
 mod reading;
 mod writing;
 
-pub use reading::{Found, Looked, find, frame, look};
+pub use reading::{Found, find, frame, look};
 pub use writing::write;

@@ -1,45 +1,35 @@
 // Looking at a book, and reading a frame of it.
 
 ghost use Rattle.std.specs.Prelude.{◌≡◌, ◌+◌, ◌*◌, ◌≤◌, ◌<◌, length};
-ghost use Rattle.sheet.specs.declared.Outcome.TheVariants.{Refused};
+ghost use Rattle.sheet.specs.Number.{outcome_of};
 ghost use Rattle.sheet.specs.Verdict.{Promise, Always};
 ghost use Rattle.book.specs.Read.{has_mark, number_at, lacks_trailer, size_is_wrong, number_checks, Looks, FrameSpan, span_of, empty_span, Finds, ReadsPart};
 
 use crate::mark::mark_bytes;
-use sheet::{Outcome, Refusal};
+use sheet::Refusal;
 
-// How many frames a book has. A refusal has 0 beside it.
-#[derive(Clone, Copy)]
-pub struct Looked {
-    pub outcome: Outcome,
-    pub count: usize,
-}
-
-// Where a frame of a book starts and ends. A refusal has 0 and 0 beside it.
+// Where a frame of a book starts and ends.
 #[derive(Clone, Copy)]
 pub struct Found {
-    pub outcome: Outcome,
     pub from: usize,
     pub to: usize,
 }
 
-pub fn look(book: &[u8]) -> Looked
+// Gives how many frames a book has.
+pub fn look(book: &[u8]) -> Result<usize, Refusal>
     ensures { Looks book.now result }
 {
     if lacks_trailer(book) {
-        return not_counted(Refusal::NoTrailer);
+        return Err(Refusal::NoTrailer);
     }
     let end = book.len() - 16;
     let trailer = &book[end..];
     let count = number_at(trailer, 4);
     let distance = number_at(trailer, 8);
     if size_is_wrong(count, distance, end) {
-        return not_counted(Refusal::BookSize);
+        return Err(Refusal::BookSize);
     }
-    Looked {
-        outcome: Outcome::Done,
-        count,
-    }
+    Ok(count)
 }
 
 fn lacks_trailer(book: &[u8]) -> bool
@@ -71,15 +61,6 @@ fn size_is_wrong(count: usize, distance: usize, end: usize) -> bool
     end < distance
 }
 
-fn not_counted(r: Refusal) -> Looked
-    ensures { (result.outcome ≡ Refused r) × (result.count ≡ 0) }
-{
-    Looked {
-        outcome: Outcome::Refused(r),
-        count: 0,
-    }
-}
-
 fn has_mark(trailer: &[u8]) -> bool
     requires { length trailer.now ≡ 16 }
     ensures { result ≡ has_mark trailer.now }
@@ -107,51 +88,31 @@ fn wide(x: u8) -> usize
 }
 
 // Where frame `i` stands in a book.
-pub fn find(book: &[u8], i: usize) -> Found
+pub fn find(book: &[u8], i: usize) -> Result<Found, Refusal>
     ensures { Finds book.now i result }
 {
-    let looked = look(book);
-    let outcome = looked.outcome;
-    match outcome {
-        Outcome::Done => find_frame(book, looked.count, i),
-        Outcome::Refused(r) => not_found(r),
-    }
+    let count = look(book)?;
+    find_frame(book, count, i)
 }
 
 // Past the checks of the book, which has `count` frames.
-fn find_frame(book: &[u8], count: usize, i: usize) -> Found
+fn find_frame(book: &[u8], count: usize, i: usize) -> Result<Found, Refusal>
     requires { 32 * count + 16 ≤ length book.now }
-    ensures { Promise (number_checks count i) (Always (FrameSpan book.now count i)) empty_span result.outcome (span_of result) }
+    ensures { Promise (number_checks count i) (Always (FrameSpan book.now count i)) empty_span (outcome_of result) (span_of result) }
 {
     if count <= i {
-        return not_found(Refusal::NoSuchFrame);
+        return Err(Refusal::NoSuchFrame);
     }
     let first = book.len() - 16 - 32 * count;
     let from = first + 32 * i;
     let to = from + 32;
-    Found {
-        outcome: Outcome::Done,
-        from,
-        to,
-    }
-}
-
-fn not_found(r: Refusal) -> Found
-    ensures { (result.outcome ≡ Refused r) × (span_of result ≡ empty_span) }
-{
-    Found {
-        outcome: Outcome::Refused(r),
-        from: 0,
-        to: 0,
-    }
+    Ok(Found { from, to })
 }
 
 // The very bytes of frame `i` in the lent book; where `find` refuses, the empty part at its front.
 pub fn frame<'a>(book: &'a [u8], i: usize) -> &'a [u8]
     ensures { ReadsPart book.entry i result }
 {
-    let found = find(book, i);
-    let from = found.from;
-    let to = found.to;
+    let Found { from, to } = find(book, i).unwrap_or(Found { from: 0, to: 0 });
     &book[from..to]
 }

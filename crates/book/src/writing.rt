@@ -5,24 +5,24 @@ ghost use Rattle.book.specs.Book.{four_bytes, trailer};
 ghost use Rattle.book.specs.Write.{WritesBook};
 
 use crate::mark::mark_bytes;
-use sheet::{Outcome, Refusal};
+use sheet::Refusal;
 
-pub fn write(frames: &[u8], book: &mut [u8]) -> Outcome
+pub fn write(frames: &[u8], book: &mut [u8]) -> Result<(), Refusal>
     ensures { WritesBook frames.now book.old result book.new }
 {
     if 32000 < frames.len() {
-        return Outcome::Refused(Refusal::BookSize);
+        return Err(Refusal::BookSize);
     }
     if frames.len() % 32 != 0 {
-        return Outcome::Refused(Refusal::FrameLength);
+        return Err(Refusal::FrameLength);
     }
     let count = frames.len() / 32;
     if book.len() != 32 * count + 16 {
-        return Outcome::Refused(Refusal::OutputLength);
+        return Err(Refusal::OutputLength);
     }
     bits::copy_at(book, 0, frames);
     put_trailer(book, count);
-    Outcome::Done
+    Ok(())
 }
 
 // The trailer of `count` frames, after them.

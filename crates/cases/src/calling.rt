@@ -2,9 +2,9 @@
 
 ghost use Rattle.std.specs.Prelude.{◌≤◌, length};
 
-use crate::room;
+use crate::room::{NO_BIT, NO_PLACE};
 use crate::showing::{
-    end_line, not_understood, print, print_number, show_bytes, show_lent_bytes, show_mended,
+    end_line, not_understood, print, print_number, show_all, show_lent_bytes, show_mended,
     show_number, show_told,
 };
 use blentovar::Record;
@@ -23,9 +23,7 @@ fn sizes(line: u64, numbers: &[usize]) {
     end_line();
 }
 
-fn describe_into(line: u64, m: usize, t: usize, generator: &mut [u8])
-    requires { length generator.old ≤ 32768 }
-{
+fn describe_into(line: u64, m: usize, t: usize, generator: &mut [u8]) {
     let answer = blentovar::blentovar_describe(m, t, generator);
     show_number(line, answer.number);
     print_number(answer.n as u64);
@@ -43,13 +41,11 @@ fn describe(line: u64, numbers: &[usize]) {
         not_understood(line);
         return;
     }
-    let mut generator = room::for_bytes(places);
+    let mut generator = [NO_BIT; 32768];
     describe_into(line, m, t, &mut generator[..places]);
 }
 
-fn encode_into(line: u64, m: usize, t: usize, message: &[u8], word: &mut [u8])
-    requires { length word.old ≤ 32768 }
-{
+fn encode_into(line: u64, m: usize, t: usize, message: &[u8], word: &mut [u8]) {
     let told = blentovar::blentovar_encode(m, t, message, word);
     show_told(line, told.number, told.buffer, told.place);
     print(b" word");
@@ -65,13 +61,11 @@ fn encode(line: u64, numbers: &[usize], message: &[u8]) {
         not_understood(line);
         return;
     }
-    let mut word = room::for_bytes(places);
+    let mut word = [NO_BIT; 32768];
     encode_into(line, m, t, message, &mut word[..places]);
 }
 
-fn decode_into(line: u64, m: usize, t: usize, received: &[u8], word: &mut [u8], list: &mut [u16])
-    requires { (length word.old ≤ 32768) × (length list.old ≤ 1024) }
-{
+fn decode_into(line: u64, m: usize, t: usize, received: &[u8], word: &mut [u8], list: &mut [u16]) {
     let answer = blentovar::blentovar_decode(m, t, received, word, list);
     show_told(line, answer.number, answer.buffer, answer.place);
     show_mended(answer.wrong, word, list);
@@ -86,8 +80,8 @@ fn decode(line: u64, numbers: &[usize], received: &[u8]) {
         not_understood(line);
         return;
     }
-    let mut word = room::for_bytes(places);
-    let mut list = room::for_list(listing);
+    let mut word = [NO_BIT; 32768];
+    let mut list = [NO_PLACE; 1024];
     decode_into(
         line,
         m,
@@ -117,7 +111,7 @@ fn edit_copy(
     if check::same(copy, word) {
         print(b" kept");
     } else {
-        show_bytes(copy);
+        show_all(copy);
     }
     end_line();
 }
@@ -132,13 +126,11 @@ fn edit(line: u64, numbers: &[usize], word: &[u8], stretch: &[u8]) {
         not_understood(line);
         return;
     }
-    let mut copy = room::for_bytes(n);
+    let mut copy = [NO_BIT; 32768];
     edit_copy(line, m, t, start, word, stretch, &mut copy[..n]);
 }
 
-fn decode_kept_into(line: u64, record: Record, word: &mut [u8], list: &mut [u16])
-    requires { (length word.old ≤ 32768) × (length list.old ≤ 1024) }
-{
+fn decode_kept_into(line: u64, record: Record, word: &mut [u8], list: &mut [u16]) {
     let answer = blentovar::blentovar_decode_kept(record, word, list);
     show_number(line, answer.number);
     show_mended(answer.wrong, word, list);
@@ -151,14 +143,12 @@ fn decode_kept(line: u64, numbers: &[usize], record: Record) {
         not_understood(line);
         return;
     }
-    let mut word = room::for_bytes(places);
-    let mut list = room::for_list(listing);
+    let mut word = [NO_BIT; 32768];
+    let mut list = [NO_PLACE; 1024];
     decode_kept_into(line, record, &mut word[..places], &mut list[..listing]);
 }
 
-fn make_into(line: u64, house: u16, poll: u16, counter: u64, frame: &mut [u8])
-    requires { length frame.old ≤ 32768 }
-{
+fn make_into(line: u64, house: u16, poll: u16, counter: u64, frame: &mut [u8]) {
     let number = blentovar::blentovar_make_frame(house, poll, counter, frame);
     show_number(line, number);
     print(b" frame");
@@ -175,7 +165,7 @@ fn make(line: u64, numbers: &[usize]) {
         not_understood(line);
         return;
     }
-    let mut frame = room::for_bytes(places);
+    let mut frame = [NO_BIT; 32768];
     make_into(
         line,
         house as u16,
@@ -222,9 +212,7 @@ fn part(line: u64, numbers: &[usize], book: &[u8]) {
     end_line();
 }
 
-fn book_into(line: u64, frames: &[u8], book: &mut [u8])
-    requires { length book.old ≤ 32768 }
-{
+fn book_into(line: u64, frames: &[u8], book: &mut [u8]) {
     let number = blentovar::blentovar_write_book(frames, book);
     show_number(line, number);
     print(b" book");
@@ -238,7 +226,7 @@ fn book(line: u64, numbers: &[usize], frames: &[u8]) {
         not_understood(line);
         return;
     }
-    let mut room = room::for_bytes(places);
+    let mut room = [NO_BIT; 32768];
     book_into(line, frames, &mut room[..places]);
 }
 

@@ -2,8 +2,6 @@
 
 #![tactic(auto)]
 
-ghost use Rattle.std.specs.Prelude.{◌≡◌, length};
-
 mod calling;
 mod keeping;
 mod room;
@@ -11,15 +9,9 @@ mod running;
 mod setting;
 mod showing;
 
-fn text_space() -> [u8; 262144]
-    ensures { 262144 ≡ length result }
-{
-    [0; 262144]
-}
-
 // A text that fills the room may be longer than it.
 fn main(rt: HostRuntime) {
-    let mut text = text_space();
+    let mut text = [0; 262144];
     let came = input::read_whole(&mut rt.stdin(), &mut text);
     let long = came.count;
     if long == 262144 {

@@ -3,7 +3,7 @@
 ghost use Rattle.std.specs.Prelude.{◌≡◌, ◌≤◌, length};
 
 use crate::keeping::keep;
-use crate::room;
+use crate::room::NO_BIT;
 use crate::setting::{set_all, set_places};
 use crate::showing::not_understood;
 use blentovar::Record;
@@ -72,30 +72,24 @@ fn run_command(
     }
 }
 
-// Room for the numbers of a line: a length, and a place and a value 2,048 times.
-fn number_space() -> [usize; 4097]
-    ensures { 4097 ≡ length result }
-{
-    [0; 4097]
-}
-
 // A line that starts with # is a comment, and an empty one says nothing.
 fn run_line(line: u64, text: &[u8], word: &mut [u8], stretch: &mut [u8], bench: Bench) -> Bench
     requires { (bench.word ≤ length word.old) × (bench.stretch ≤ length stretch.old) }
     ensures { (result.word ≤ length word.new) × (result.stretch ≤ length stretch.new) }
 {
-    if scan::find(text, 0, b'#') == 0 {
+    if let None | Some(b'#') = text.first() {
         return bench;
     }
     let end = scan::find(text, 0, b' ');
-    let mut numbers = number_space();
-    let found = fill_numbers(text, end, &mut numbers);
-    let count = found.count;
-    if !found.is_all {
+    // A length, and a place and a value 2,048 times.
+    let mut numbers = [0; 4097];
+    let (Some(command), Some(count)) = (
+        command_of(&text[..end]),
+        fill_numbers(text, end, &mut numbers),
+    ) else {
         not_understood(line);
         return bench;
-    }
-    let command = command_of(&text[..end]);
+    };
     run_command(line, command, &numbers[..count], word, stretch, bench)
 }
 
@@ -103,18 +97,13 @@ fn run_lines(text: &[u8], word: &mut [u8], stretch: &mut [u8])
     requires { (length word.old ≡ 32768) × (length stretch.old ≡ 32768) }
 {
     let mut bench = nothing_lent();
-    let mut line = 0u64;
-    let mut at = 0;
-    while at < text.len() {
-        line += 1;
-        let end = scan::find(text, at, b'\n');
-        bench = run_line(line, &text[at..end], word, stretch, bench);
-        at = end + 1;
+    for (i, line) in text.split(|byte| *byte == b'\n').enumerate() {
+        bench = run_line(i as u64 + 1, line, word, stretch, bench);
     }
 }
 
 pub(crate) fn run_text(text: &[u8]) {
-    let mut word = room::for_bytes(32768);
-    let mut stretch = room::for_bytes(32768);
+    let mut word = [NO_BIT; 32768];
+    let mut stretch = [NO_BIT; 32768];
     run_lines(text, &mut word, &mut stretch);
 }

@@ -5,16 +5,6 @@ ghost use Rattle.std.specs.Prelude.{◌≡◌, ◌≤◌, length};
 use crate::showing::not_understood;
 use commands::numbers::number_at;
 
-fn fill(word: &mut [u8], value: u8)
-    ensures { length word.new ≡ length word.old }
-{
-    let mut i = 0;
-    while i < word.len() {
-        word[i] = value;
-        i += 1;
-    }
-}
-
 fn put_byte(word: &mut [u8], place: usize, value: usize) -> bool
     ensures { length word.new ≡ length word.old }
 {
@@ -27,15 +17,11 @@ fn put_byte(word: &mut [u8], place: usize, value: usize) -> bool
 
 // Zeros but for the pairs of a place and a value that follow the first number. Whether they are pairs, each of a place that is there and a byte.
 fn put_pairs(numbers: &[usize], word: &mut [u8]) -> bool {
-    fill(word, 0);
-    let mut i = 1;
-    while i < numbers.len() {
-        let place = numbers[i];
-        let put = put_byte(word, place, number_at(numbers, i + 1));
-        if !put {
+    word.fill(0);
+    for i in (1..numbers.len()).step_by(2) {
+        if !put_byte(word, numbers[i], number_at(numbers, i + 1)) {
             return false;
         }
-        i += 2;
     }
     numbers.len() % 2 == 1
 }
@@ -49,8 +35,7 @@ pub(crate) fn set_places(line: u64, numbers: &[usize], room: &mut [u8]) -> usize
         not_understood(line);
         return 0;
     }
-    let put = put_pairs(numbers, &mut room[..n]);
-    if !put {
+    if !put_pairs(numbers, &mut room[..n]) {
         not_understood(line);
         return 0;
     }
@@ -64,7 +49,7 @@ pub(crate) fn set_all(line: u64, numbers: &[usize], room: &mut [u8]) -> usize
     let n = number_at(numbers, 0);
     let value = number_at(numbers, 1);
     if numbers.len() == 2 && n <= room.len() && value < 256 {
-        fill(&mut room[..n], value as u8);
+        room[..n].fill(value as u8);
         return n;
     }
     not_understood(line);

@@ -2,7 +2,7 @@
 
 ghost use Rattle.std.specs.Prelude.{◌≤◌, length};
 
-use crate::room;
+use crate::room::{NO_BIT, NO_PLACE};
 use blentovar::KeptAnswer;
 use input::STDOUT_FILENO;
 
@@ -46,60 +46,39 @@ fn show_place(place: usize, value: u64) {
     }
 }
 
-fn show_byte(place: usize, value: u8) {
-    show_place(place, value as u64);
-}
-
-fn show_entry(place: usize, value: u16) {
-    show_place(place, value as u64);
-}
-
-// The places that do not hold 0, here and below.
-pub(crate) fn show_bytes(bytes: &[u8]) {
-    let mut i = 0;
-    while i < bytes.len() {
-        show_byte(i, bytes[i]);
-        i += 1;
-    }
-}
-
-fn show_entries(entries: &[u16]) {
-    let mut i = 0;
-    while i < entries.len() {
-        show_entry(i, entries[i]);
-        i += 1;
-    }
-}
-
-pub(crate) fn show_lent_bytes(lent: &[u8])
-    requires { length lent.now ≤ 32768 }
+// The places of bytes or of 16-bit entries that do not hold 0.
+pub(crate) fn show_all<T: Copy>(values: &[T])
+where
+    u64: From<T>,
 {
-    if room::bytes_are_kept(lent) {
+    for (place, value) in values.iter().enumerate() {
+        show_place(place, u64::from(*value));
+    }
+}
+
+// The same of a lent buffer, unless it holds at every place what it was lent with.
+fn show_lent<T: Copy + PartialEq>(lent: &[T], before: T)
+where
+    u64: From<T>,
+{
+    if lent.iter().all(|value| *value == before) {
         print(b" kept");
     } else {
-        show_bytes(lent);
+        show_all(lent);
     }
 }
 
-fn show_lent_list(lent: &[u16])
-    requires { length lent.now ≤ 1024 }
-{
-    if room::list_is_kept(lent) {
-        print(b" kept");
-    } else {
-        show_entries(lent);
-    }
+pub(crate) fn show_lent_bytes(lent: &[u8]) {
+    show_lent(lent, NO_BIT);
 }
 
 // The rest of a line on decoding: how many places were wrong, and both buffers.
-pub(crate) fn show_mended(wrong: usize, word: &[u8], list: &[u16])
-    requires { (length word.now ≤ 32768) × (length list.now ≤ 1024) }
-{
+pub(crate) fn show_mended(wrong: usize, word: &[u8], list: &[u16]) {
     print_number(wrong as u64);
     print(b" word");
     show_lent_bytes(word);
     print(b" list");
-    show_lent_list(list);
+    show_lent(list, NO_PLACE);
     end_line();
 }
 
@@ -111,8 +90,8 @@ pub(crate) fn show_record(line: u64, answer: KeptAnswer) {
     print_number(record.m as u64);
     print_number(record.t as u64);
     print(b" bits");
-    show_bytes(&bits);
+    show_all(&bits);
     print(b" sums");
-    show_entries(&sums);
+    show_all(&sums);
     end_line();
 }

@@ -3,7 +3,7 @@ use mathlib.Core.Path.{◌≡◌, refl, ap₂}
 use mathlib.Core.List.{List}
 use Prim.Native.Nat.{ℕ, ◌+◌, ◌-◌}
 use lib.ListN.{length, get_or}
-use Rattle.sheet.specs.declared.Outcome.TheVariants.{Done}
+use Rattle.std.specs.Prelude.{Ok}
 use Rattle.sheet.specs.Verdict.{verdict}
 use Rattle.sheet.proofs.VerdictLaws.{all_pass, same_of}
 use Rattle.field.specs.Power.{n_of}
@@ -18,7 +18,7 @@ use Rattle.codec.specs.Describe.{describe_checks, DescriptionOf}
 degree : {c : Code} → Known c → c.n - c.k ≡ n_of c.m - get_or ks c.row 0
 degree K = ap₂ (λ (x y : ℕ). x - y) K.is_n K.is_k
 
-pub describe_ready : {c : Code} (lent : List ℕ) → Known c → verdict (describe_checks lent c) ≡ Done
+pub describe_ready : {c : Code} (lent : List ℕ) → Known c → verdict (describe_checks lent c) ≡ Ok tt
     → RowOf c.m c.row × (length lent ≡ n_of c.m - get_or ks c.row 0 + 1)
 describe_ready {c} lent K e =
     let (output, _) = all_pass (describe_checks lent c) e in

@@ -7,7 +7,7 @@ use borrow.Author.Tests.{ltb-false}
 use lib.Bits.{bit_xor, xor_zero_r, xor_comm}
 use lib.ListN.{length, get_or, take}
 use lib.Seq.{get_or-take}
-use Rattle.sheet.specs.declared.Outcome.TheVariants.{Done}
+use Rattle.std.specs.Prelude.{Ok}
 use Rattle.sheet.specs.Verdict.{verdict}
 use Rattle.sheet.proofs.VerdictLaws.{all_pass, same_of}
 use Rattle.bits.specs.Bits.{AreBits, added}
@@ -21,7 +21,7 @@ use Rattle.parity.specs.Work.{MessageChange}
 use Rattle.codec.specs.Edit.{Editing, edit_checks, message_place}
 use Rattle.codec.specs.Work.{EditReady}
 
-pub edit_ready : {c : Code} (word : List ℕ) (start : ℕ) (stretch : List ℕ) → Known c → verdict (edit_checks word start stretch c) ≡ Done
+pub edit_ready : {c : Code} (word : List ℕ) (start : ℕ) (stretch : List ℕ) → Known c → verdict (edit_checks word start stretch c) ≡ Ok tt
     → EditReady c word start stretch
 edit_ready {c} word start stretch K e =
     let (input, (end, (bits, (stretch_bits, _)))) = all_pass (edit_checks word start stretch c) e in

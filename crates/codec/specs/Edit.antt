@@ -3,7 +3,7 @@
 -- 5.1: "The buffer is 1 for the stretch of Edit."
 use Rattle.std.specs.Prelude.{◌≡◌, not, List, [], ◌∷◌, ℕ, ◌+◌, ◌-◌, ◌≤◌, ◌<◌, eqb, length, get_or}
 use Rattle.sheet.specs.declared.Refusal.TheVariants.{InputLength, BitAboveOne, StretchEnd}
-use Rattle.sheet.specs.declared.Outcome.{Outcome}
+use Rattle.sheet.specs.Number.{Outcome}
 use Rattle.sheet.specs.Verdict.{Check, ◌⇒◌, Always}
 use Rattle.bits.specs.Bits.{AreBits, first_above, has_bad_bit, runs_past, added}
 use Rattle.codes.specs.declared.Code.{Code}

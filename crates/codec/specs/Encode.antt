@@ -2,7 +2,7 @@
 -- 5.2: its checks are 1, 2, 3, 4, 5.
 use Rattle.std.specs.Prelude.{not, List, [], ◌∷◌, ℕ, eqb, length}
 use Rattle.sheet.specs.declared.Refusal.TheVariants.{InputLength, OutputLength, BitAboveOne}
-use Rattle.sheet.specs.declared.Outcome.{Outcome}
+use Rattle.sheet.specs.Number.{Outcome}
 use Rattle.sheet.specs.Verdict.{Check, ◌⇒◌, Always}
 use Rattle.bits.specs.Bits.{first_above, has_bad_bit}
 use Rattle.codes.specs.declared.Code.{Code}

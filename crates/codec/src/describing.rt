@@ -4,70 +4,40 @@ ghost use Rattle.codes.specs.Work.{Checked};
 ghost use Rattle.codec.specs.Sizes.{GivesSizes};
 ghost use Rattle.codec.specs.Describe.{Describes, describe_checks};
 
-use codes::Look;
-use sheet::{Outcome, Refusal};
+use codes::Code;
+use sheet::Refusal;
 
-// A refusal has zeros beside it.
+// n and k of a listed code.
 #[derive(Clone, Copy)]
 pub struct Described {
-    pub outcome: Outcome,
     pub n: usize,
     pub k: usize,
 }
 
-pub fn sizes(m: usize, t: usize) -> Described
+pub fn sizes(m: usize, t: usize) -> Result<Described, Refusal>
     ensures { GivesSizes m t result }
 {
-    let found = codes::look_up(m, t);
-    match found {
-        Look::Passes(code) => {
-            let n = code.n;
-            let k = code.k;
-            Described {
-                outcome: Outcome::Done,
-                n,
-                k,
-            }
-        }
-        Look::Refused(r) => Described {
-            outcome: Outcome::Refused(r),
-            n: 0,
-            k: 0,
-        },
-    }
+    let Code { n, k, .. } = codes::look_up(m, t)?;
+    Ok(Described { n, k })
 }
 
-pub fn describe(m: usize, t: usize, generator: &mut [u8]) -> Described
+pub fn describe(m: usize, t: usize, generator: &mut [u8]) -> Result<Described, Refusal>
     ensures { Describes m t generator.old result generator.new }
 {
-    let checked = checks(m, t, generator);
-    match checked {
-        Look::Passes(code) => {
-            generator::fill_generator(code.m, code.row, generator);
-            Described {
-                outcome: Outcome::Done,
-                n: code.n,
-                k: code.k,
-            }
-        }
-        Look::Refused(r) => Described {
-            outcome: Outcome::Refused(r),
-            n: 0,
-            k: 0,
-        },
-    }
+    let code = checks(m, t, generator)?;
+    generator::fill_generator(code.m, code.row, generator);
+    Ok(Described {
+        n: code.n,
+        k: code.k,
+    })
 }
 
-fn checks(m: usize, t: usize, generator: &[u8]) -> Look
+fn checks(m: usize, t: usize, generator: &[u8]) -> Result<Code, Refusal>
     ensures { Checked m t (describe_checks generator.now) result }
 {
-    let look = codes::look_up(m, t);
-    let Look::Passes(code) = look else {
-        return look;
-    };
-    let places = code.n - code.k + 1;
-    if generator.len() != places {
-        return Look::Refused(Refusal::OutputLength);
+    let code = codes::look_up(m, t)?;
+    if generator.len() != code.n - code.k + 1 {
+        return Err(Refusal::OutputLength);
     }
-    look
+    Ok(code)
 }

@@ -4,51 +4,40 @@ ghost use Rattle.codes.specs.Work.{Checked};
 ghost use Rattle.codec.specs.Edit.{Edits, Editing, edit_checks};
 ghost use Rattle.codec.specs.Work.{EditReady};
 
-use codes::{Code, Look};
-use sheet::{Outcome, Refusal};
+use codes::Code;
+use sheet::Refusal;
 
-pub fn edit(m: usize, t: usize, word: &mut [u8], start: usize, stretch: &[u8]) -> Outcome
+pub fn edit(
+    m: usize,
+    t: usize,
+    word: &mut [u8],
+    start: usize,
+    stretch: &[u8],
+) -> Result<(), Refusal>
     ensures { Edits m t word.old start stretch.now result word.new }
 {
-    let checked = checks(m, t, word, start, stretch);
-    match checked {
-        Look::Passes(code) => {
-            put_stretch(code, word, start, stretch);
-            Outcome::Done
-        }
-        Look::Refused(r) => Outcome::Refused(r),
-    }
+    let code = checks(m, t, word, start, stretch)?;
+    put_stretch(code, word, start, stretch);
+    Ok(())
 }
 
-fn checks(m: usize, t: usize, word: &[u8], start: usize, stretch: &[u8]) -> Look
+fn checks(m: usize, t: usize, word: &[u8], start: usize, stretch: &[u8]) -> Result<Code, Refusal>
     ensures { Checked m t (edit_checks word.now start stretch.now) result }
 {
-    let look = codes::look_up(m, t);
-    let Look::Passes(code) = look else {
-        return look;
-    };
+    let code = codes::look_up(m, t)?;
     if word.len() != code.n {
-        return Look::Refused(Refusal::InputLength);
+        return Err(Refusal::InputLength);
     }
-    let past = bits::runs_past(start, stretch.len(), code.k);
-    if past {
-        return Look::Refused(Refusal::StretchEnd);
+    if bits::runs_past(start, stretch.len(), code.k) {
+        return Err(Refusal::StretchEnd);
     }
-    let in_word = bits::first_above_one(word);
-    if in_word < word.len() {
-        return Look::Refused(Refusal::BitAboveOne {
-            buffer: 0,
-            place: in_word,
-        });
+    if let Some(place) = bits::first_above_one(word) {
+        return Err(Refusal::BitAboveOne { buffer: 0, place });
     }
-    let in_stretch = bits::first_above_one(stretch);
-    if in_stretch < stretch.len() {
-        return Look::Refused(Refusal::BitAboveOne {
-            buffer: 1,
-            place: in_stretch,
-        });
+    if let Some(place) = bits::first_above_one(stretch) {
+        return Err(Refusal::BitAboveOne { buffer: 1, place });
     }
-    look
+    Ok(code)
 }
 
 // Into the word the code word that carries the change of the message is added.

@@ -1,12 +1,16 @@
 -- Looking up finds the row of a listed t, and nothing for any other.
 use mathlib.Core.Path.{◌≡◌, ◌∙◌, refl, sym, ap}
 use mathlib.Core.Bool.{Bool, true, cond}
+use mathlib.Core.List.{List, ◌∷◌}
 use Prim.Native.Nat.{ℕ, zero, suc, ◌+◌, ◌-◌, ◌≤◌, ◌<◌}
+use native.Mathlib.Nat.{add-zero}
 use native.Mathlib.Decide.{ℕ_discrete, dec_lt}
 use native.Mathlib.Omega.{arith}
 use borrow.Author.Tests.{eq-eqb, ne_eqb, lt-ltb}
 use lib.Dec.{T, leb, eqb, leb→le}
-use lib.ListN.{length, get_or}
+use lib.ListN.{length, get_or, take, drop}
+use lib.Seq.{drop-cons}
+use Rattle.std.specs.List.{position_or_len}
 use Rattle.field.specs.Product.{IsField}
 use Rattle.field.proofs.Tests.{both, both_left, both_right, passes, passed_at, at_listed}
 use Rattle.field.proofs.Range.{sizes}
@@ -30,6 +34,19 @@ row_from_here left r t e = rw (row_from-suc left r t, eq-eqb (get_or ts r 0) t e
 
 pub row_from_later : (left r t : ℕ) → (get_or ts r 0 ≡ t → ⊥) → row_from (suc left) r t ≡ row_from left (suc r) t
 row_from_later left r t e = rw (row_from-suc left r t, ne_eqb (get_or ts r 0) t e)
+
+-- the search is std's, among the rows from r on
+pub row_from_position : (left r t : ℕ) → r + left ≤ length ts → row_from left r t ≡ r + position_or_len (λ x. eqb x t) (take left (drop r ts))
+row_from_position zero r t h = row_from_none r t ∙ sym (add-zero r)
+row_from_position (suc left) r t h = rw (drop-cons ts r 0 (omega arith)) (pick (ℕ_discrete (get_or ts r 0) t) (row_from_position left (suc r) t (omega arith)))
+  where
+    rest : List ℕ
+    rest = take left (drop (suc r) ts)
+
+    pick : Dec (get_or ts r 0 ≡ t) → row_from left (suc r) t ≡ suc r + position_or_len (λ x. eqb x t) rest
+        → row_from (suc left) r t ≡ r + position_or_len (λ x. eqb x t) (get_or ts r 0 ∷ rest)
+    pick (yes e) later = rw (row_from_here left r t e, eq-eqb (get_or ts r 0) t e) (sym (add-zero r))
+    pick (no n) later = rw (row_from_later left r t n, ne_eqb (get_or ts r 0) t n) (omega (arith, later))
 
 pub ts_long : length ts ≡ 232
 unfolding ts listed_codes

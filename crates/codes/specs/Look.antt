@@ -1,7 +1,7 @@
 -- Looking a code up: the field sizes, the row of a listed t, its k. docs/SCOPE.md 5.1: "m is not 3 to 10", "t is not listed for m".
 use Rattle.std.specs.Prelude.{Bool, cond, not, ◌&&◌, List, ◌∷◌, ℕ, zero, suc, ◌-◌, leb, ltb, eqb, get_or}
 use Rattle.sheet.specs.declared.Refusal.TheVariants.{FieldSize, NotListed}
-use Rattle.sheet.specs.declared.Outcome.{Outcome}
+use Rattle.sheet.specs.Number.{Outcome}
 use Rattle.sheet.specs.Verdict.{Check, ◌⇒◌, verdict, Promise}
 use Rattle.field.specs.Power.{n_of}
 use Rattle.codes.specs.Table.{ks, ts, first}

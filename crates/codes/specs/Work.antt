@@ -1,28 +1,25 @@
 -- What looking a code up answers, and what is known of the code; no promise rests on it.
-use Rattle.std.specs.Prelude.{◌≡◌, List, [], ℕ, ◌≤◌, get_or}
-use Rattle.sheet.specs.declared.Outcome.{Outcome}
-use Rattle.sheet.specs.declared.Outcome.TheVariants.{Done, Refused}
+use Rattle.std.specs.Prelude.{◌≡◌, List, [], ℕ, ◌≤◌, get_or, Result, Ok, Err}
+use Rattle.sheet.specs.declared.Refusal.{Refusal}
+use Rattle.sheet.specs.Number.{Outcome}
 use Rattle.sheet.specs.Verdict.{Check}
 use Rattle.field.specs.Power.{n_of}
 use Rattle.codes.specs.Table.{ks, ts}
 use Rattle.codes.specs.Rows.{RowOf}
 use Rattle.codes.specs.Look.{code_of, code_verdict}
 use Rattle.codes.specs.declared.Code.{Code}
-use Rattle.codes.specs.declared.Look.{Look}
-use Rattle.codes.specs.declared.Look.TheVariants.{Passes}
-use Rattle.codes.specs.declared.Look.TheVariants.{Refused as Refuses}
 
 -- no check after the first two
 abbrev pub no_more : Code → List Check
 no_more c = []
 
 -- the code where nothing is refused, and the refusal where something is
-abbrev pub passing : Outcome → Code → Look
-passing Done c = Passes c
-passing (Refused r) c = Refuses r
+abbrev pub passing : Outcome → Code → Result Code Refusal
+passing (Ok u) c = Ok c
+passing (Err r) c = Err r
 
 -- what running down all these checks answers
-pub record Checked (m t : ℕ) (checks : Code → List Check) (look : Look) : Type 0 where
+pub record Checked (m t : ℕ) (checks : Code → List Check) (look : Result Code Refusal) : Type 0 where
   pub is : look ≡ passing (code_verdict m t checks) (code_of m t)
 
 -- what is known of a code that was looked up

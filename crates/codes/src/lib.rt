@@ -22,37 +22,25 @@ pub struct Code {
     pub k: usize,
 }
 
-// The code where every check so far has passed, or the refusal of the first that has not.
-#[derive(Clone, Copy)]
-pub enum Look {
-    Passes(Code),
-    Refused(Refusal),
-}
-
 // The row that has t, from `from` up to, not including, `to`; and `to` if none has it.
 fn find_row(ts: &[u16], from: usize, to: usize, t: usize) -> usize
     requires { (ts.now ≡ Table·ts) × (from ≤ to) × (to ≤ 232) }
     ensures { result ≡ row_from (to - from) from t }
 {
-    let mut row = from;
-    while row < to {
-        if ts[row] as usize == t {
-            return row;
-        }
-        row += 1;
-    }
-    row
+    let rows = &ts[from..to];
+    let at = rows.iter().position(|listed| usize::from(*listed) == t);
+    from + at.unwrap_or(rows.len())
 }
 
 // The first two checks of every operation.
-pub fn look_up(m: usize, t: usize) -> Look
+pub fn look_up(m: usize, t: usize) -> Result<Code, Refusal>
     ensures { Checked m t no_more result }
 {
     if m < 3 {
-        return Look::Refused(Refusal::FieldSize);
+        return Err(Refusal::FieldSize);
     }
     if 10 < m {
-        return Look::Refused(Refusal::FieldSize);
+        return Err(Refusal::FieldSize);
     }
     let from = table::first_row(m);
     let to = table::first_row(m + 1);
@@ -62,8 +50,8 @@ pub fn look_up(m: usize, t: usize) -> Look
         let ks = table::ks();
         let k = ks[row] as usize;
         let n = field::n_of(m);
-        Look::Passes(Code { m, t, row, n, k })
+        Ok(Code { m, t, row, n, k })
     } else {
-        Look::Refused(Refusal::NotListed)
+        Err(Refusal::NotListed)
     }
 }

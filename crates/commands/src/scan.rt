@@ -10,9 +10,13 @@ pub fn find(text: &[u8], start: usize, byte: u8) -> usize
     ensures found { result < length text.now → slice_index text.now result ≡ byte }
     ensures first { (k : ℕ) → start ≤ k → k < result → slice_index text.now k ≢ byte }
 {
-    let mut at = start;
-    while at < text.len() && text[at] != byte {
-        at += 1;
-    }
-    at
+    start + first(&text[start..], byte)
+}
+
+fn first(text: &[u8], byte: u8) -> usize
+    ensures high { result ≤ length text.now }
+    ensures found { result < length text.now → slice_index text.now result ≡ byte }
+    ensures none { (k : ℕ) → k < result → slice_index text.now k ≢ byte }
+{
+    text.iter().position(|b| *b == byte).unwrap_or(text.len())
 }

@@ -1,16 +1,17 @@
 -- Decode. docs/SCOPE.md 4.5: "Takes m, t, n received bits, a buffer of n places for the mended word and a buffer of t 16-bit places for the list.
 -- Gives the number of wrong places; the list holds them ascending, then zeros. The mended word is the code word within t of what was received."
 -- 5.2: its checks are 1, 2, 3, 4, 5, 6.
-use Rattle.std.specs.Prelude.{◌≡◌, not, List, [], ◌∷◌, ◌++◌, ℕ, ◌-◌, ◌≤◌, eqb, length, replicate}
+use Rattle.std.specs.Prelude.{◌≡◌, not, List, [], ◌∷◌, ◌++◌, ℕ, ◌-◌, ◌≤◌, eqb, length, replicate, Result}
+use Rattle.std.specs.Result.{result_unwrap_or}
+use Rattle.sheet.specs.declared.Refusal.{Refusal}
 use Rattle.sheet.specs.declared.Refusal.TheVariants.{InputLength, OutputLength, BitAboveOne}
-use Rattle.sheet.specs.declared.Outcome.{Outcome}
+use Rattle.sheet.specs.Number.{Outcome, outcome_of}
 use Rattle.sheet.specs.Verdict.{Check, ◌⇒◌, Searches}
 use Rattle.bits.specs.Bits.{first_above, has_bad_bit}
 use Rattle.bits.specs.Differences.{differences, distance}
 use Rattle.codes.specs.declared.Code.{Code}
 use Rattle.codes.specs.Look.{CodePromise}
 use Rattle.codes.specs.Sums.{CodeWord}
-use Rattle.decode.specs.declared.Decoded.{Decoded}
 
 -- the checks before 6: the word's buffer, then the list's
 abbrev pub decode_checks : List ℕ → List ℕ → List ℕ → Code → List Check
@@ -27,10 +28,10 @@ pub record Mended : Type 0 where
   pub word : List ℕ
   pub list : List ℕ
 
-abbrev pub left_by : Decoded → List ℕ → List ℕ → Mended
-left_by answer word list = record { wrong = answer.wrong; word = word; list = list }
+abbrev pub left_by : Result ℕ Refusal → List ℕ → List ℕ → Mended
+left_by answer word list = record { wrong = result_unwrap_or answer 0; word = word; list = list }
 
--- a refusal gives 0 and leaves both buffers as lent
+-- a refusal leaves both buffers as lent; there is no number, and 0 stands for it
 abbrev pub as_lent : List ℕ → List ℕ → Mended
 as_lent lentWord lentList = record { wrong = 0; word = lentWord; list = lentList }
 
@@ -50,7 +51,7 @@ abbrev pub MendsWithin : Code → ℕ → List ℕ → List ℕ → List ℕ →
 MendsWithin c radius received lentWord lentList = Searches (Mends c.m c.t radius received) (Far c.m c.t radius received) (as_lent lentWord lentList)
 
 -- the radius is t
-abbrev pub Decodes : ℕ → ℕ → List ℕ → List ℕ → List ℕ → Decoded → List ℕ → List ℕ → Type 0
+abbrev pub Decodes : ℕ → ℕ → List ℕ → List ℕ → List ℕ → Result ℕ Refusal → List ℕ → List ℕ → Type 0
 Decodes m t received lentWord lentList answer word list =
     CodePromise m t (decode_checks received lentWord lentList) (λ c. MendsWithin c c.t received lentWord lentList) (as_lent lentWord lentList)
-    answer.outcome (left_by answer word list)
+    (outcome_of answer) (left_by answer word list)

@@ -1,14 +1,15 @@
 -- Decode kept. docs/SCOPE.md 4.10: "Takes a kept record and the two buffers of Decode. It finds the set of at most t places below n whose sums are the
 -- stored ones, which is unique if there is one, and flips these in the stored bits. The mended word, the list and the number of wrong places are given as
 -- in Decode." 5.2: its checks are 1, 2, 7, 4, 6.
-use Rattle.std.specs.Prelude.{◌≡◌, not, List, [], ◌∷◌, ◌++◌, ℕ, ◌-◌, eqb, length, take, replicate}
+use Rattle.std.specs.Prelude.{◌≡◌, not, List, [], ◌∷◌, ◌++◌, ℕ, ◌-◌, eqb, length, take, replicate, Result}
+use Rattle.sheet.specs.declared.Refusal.{Refusal}
 use Rattle.sheet.specs.declared.Refusal.TheVariants.{OutputLength, RecordContents}
+use Rattle.sheet.specs.Number.{outcome_of}
 use Rattle.sheet.specs.Verdict.{Check, ◌⇒◌, Searches}
 use Rattle.bits.specs.Bits.{flipped}
 use Rattle.codes.specs.declared.Code.{Code}
 use Rattle.codes.specs.Look.{CodePromise}
 use Rattle.locate.specs.Located.{Located}
-use Rattle.decode.specs.declared.Decoded.{Decoded}
 use Rattle.decode.specs.Decode.{Mended, as_lent, left_by}
 use Rattle.kept.specs.declared.Kept.{Kept}
 use Rattle.kept.specs.Record.{bad_record}
@@ -34,8 +35,8 @@ abbrev pub NoSet : Code → Kept → Type 0
 NoSet c stored = (places : List ℕ) → Located c.m c.t stored.sums places → ⊥
 
 -- past the checks: such places are found; or 6, there are none, and both buffers are as lent
-abbrev pub DecodesKept : Kept → List ℕ → List ℕ → Decoded → List ℕ → List ℕ → Type 0
+abbrev pub DecodesKept : Kept → List ℕ → List ℕ → Result ℕ Refusal → List ℕ → List ℕ → Type 0
 DecodesKept stored lentWord lentList answer word list =
     CodePromise stored.m stored.t (decode_kept_checks stored lentWord lentList)
     (λ c. Searches (MendsKept c stored) (NoSet c stored) (as_lent lentWord lentList)) (as_lent lentWord lentList)
-    answer.outcome (left_by answer word list)
+    (outcome_of answer) (left_by answer word list)

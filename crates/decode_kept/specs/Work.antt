@@ -1,5 +1,5 @@
 -- What the steps of Decode kept hand to each other; no promise rests on it.
-use Rattle.std.specs.Prelude.{◌≡◌, List, ℕ, ◌≤◌, length, take}
+use Rattle.std.specs.Prelude.{◌≡◌, List, ℕ, length}
 use Rattle.codes.specs.declared.Code.{Code}
 use Rattle.codes.specs.Work.{Known}
 use Rattle.locate.specs.Located.{Located}
@@ -13,8 +13,7 @@ pub record KeptReady (c : Code) (stored : Kept) (word list : List ℕ) : Type 0 
   pub word_long : length word ≡ c.n
   pub list_long : length list ≡ c.t
 
--- and the first `count` of the places have the stored sums
-pub record CanPutStored (c : Code) (stored : Kept) (places : List ℕ) (count : ℕ) (word list : List ℕ) : Type 0 where
+-- and the places have the stored sums
+pub record CanPutStored (c : Code) (stored : Kept) (places word list : List ℕ) : Type 0 where
   pub ready : KeptReady c stored word list
-  pub within : count ≤ length places
-  pub located : Located c.m c.t stored.sums (take count places)
+  pub located : Located c.m c.t stored.sums places

@@ -9,12 +9,13 @@ use denote.Ref.{Bor}
 use borrow.Author.Tests.{le-leb, ltb-false}
 use lib.ListN.{length, take, drop, length-append, length-drop}
 use lib.Seq.{take-append-le, drop-append-add, drop-append-le, take_at}
+use Rattle.std.specs.Result.{result_unwrap_or}
+use Rattle.std.specs.Prelude.{Result, Ok, Err}
+use Rattle.sheet.specs.declared.Refusal.{Refusal}
 use Rattle.sheet.specs.declared.Refusal.TheVariants.{NoSuchFrame}
-use Rattle.sheet.specs.declared.Outcome.{Outcome}
-use Rattle.sheet.specs.declared.Outcome.TheVariants.{Done, Refused}
+use Rattle.sheet.specs.Number.{Outcome, outcome_of}
 use Rattle.sheet.proofs.VerdictLaws.{always_one, promise_one, done_passed, earlier_pass, all_pass, same_of}
 use Rattle.sheet.proofs.VerdictLaws.{not_done, same_refusal}
-use Rattle.book.specs.declared.reading.Looked.{Looked}
 use Rattle.book.specs.declared.reading.Found.{Found}
 use Rattle.book.specs.Book.{trailer, IsBook, frame_start, AreBytes}
 use Rattle.book.specs.Read.{count_of, book_checks, number_checks, Looks, Span, empty_span, span_of, Finds, Part, ReadsPart}
@@ -23,33 +24,33 @@ use Rattle.book.proofs.ReadLaws.{passed, frame_passes, same_finds}
 use Rattle.book.proofs.TrailerLaws.{book_count, book_passes, passes_book, front_trailer, front_book, written_book, written_long}
 use Rattle.lister.specs.Listing.{frame_at, frames_of, ListsFirst, Lists, frames_in, ListsBook, lists, refuses}
 use Rattle.demands.specs.Words.{CarriedHome}
+use Rattle.demands.proofs.OneOutcome.{same_answer}
+use Rattle.demands.proofs.Near.{same_number}
 use Rattle.demands.proofs.FrameOutcome.{line_one}
 use Rattle.demands.proofs.ListingOutcome.{lists_one}
 
 -- one outcome
 
-looked_same : {x y : Looked} → x.outcome ≡ y.outcome → x.count ≡ y.count → x ≡ y
-looked_same o c = ap₂ (λ (a : Outcome) (n : ℕ). record { outcome = a; count = n }) o c
-
-pub look_one : (book : List ℕ) {x y : Looked} → Looks book x → Looks book y → x ≡ y
-look_one book p q =
+pub look_one : (book : List ℕ) (x y : Result ℕ Refusal) → Looks book x → Looks book y → x ≡ y
+look_one book x y p q =
     let (o, c) = promise_one (λ z a b. always_one (λ v w. v.is ∙ sym w.is) a b) p q in
-    looked_same o c
+    same_number x y o c
 
 span_same : {s t : Span} → s.from ≡ t.from → s.to ≡ t.to → s ≡ t
 span_same a b = ap₂ (λ (m n : ℕ). record { from = m; to = n }) a b
 
-found_same : {x y : Found} → x.outcome ≡ y.outcome → span_of x ≡ span_of y → x ≡ y
-found_same {x} {y} o s =
-    ap₂ (λ (a : Outcome) (m : ℕ). of a m x.to) o (ap (λ (t : Span). t.from) s) ∙ ap (of y.outcome y.from) (ap (λ (t : Span). t.to) s)
+found_same : (x y : Result Found Refusal) → outcome_of x ≡ outcome_of y → span_of x ≡ span_of y → x ≡ y
+found_same x y o s = same_answer x y o same
   where
-    of : Outcome → ℕ → ℕ → Found
-    of outcome from to = record { outcome = outcome; from = from; to = to }
+    same : (a b : Found) → x ≡ Ok a → y ≡ Ok b → a ≡ b
+    same a b e f =
+        let u = sym (ap span_of e) ∙ s ∙ ap span_of f in
+        ap₂ (λ (m n : ℕ). record { from = m; to = n }) (ap (λ (t : Span). t.from) u) (ap (λ (t : Span). t.to) u)
 
-pub find_one : (book : List ℕ) (i : ℕ) {x y : Found} → Finds book i x → Finds book i y → x ≡ y
-find_one book i p q =
+pub find_one : (book : List ℕ) (i : ℕ) (x y : Result Found Refusal) → Finds book i x → Finds book i y → x ≡ y
+find_one book i x y p q =
     let (o, s) = promise_one (λ z a b. always_one (λ v w. span_same (v.starts ∙ sym w.starts) (v.ends ∙ sym w.ends)) a b) p q in
-    found_same o s
+    found_same x y o s
 
 part_same : {s r t : Bor (List ℕ)} {from to from' to' : ℕ} → from ≡ from' → to ≡ to' → Part s from to r → Part s from' to' t
     → (r.now ≡ t.now) × (r.ref_ptr ≡ t.ref_ptr)
@@ -60,8 +61,8 @@ part_same {s} e f p q = (
 
 pub read_book_one : {book r s : Bor (List ℕ)} {i : ℕ} → ReadsPart book i r → ReadsPart book i s → (r.now ≡ s.now) × (r.ref_ptr ≡ s.ref_ptr)
 read_book_one {book} {i = i} p q =
-    let same = find_one book.now i p.finds q.finds in
-    part_same (ap (λ (x : Found). x.from) same) (ap (λ (x : Found). x.to) same) p.part q.part
+    let same = ap span_of (find_one book.now i p.found q.found p.finds q.finds) in
+    part_same (ap (λ (s : Span). s.from) same) (ap (λ (s : Span). s.to) same) p.part q.part
 
 pub write_book_one : {frames lent left left' : List ℕ} {x y : Outcome} → WritesBook frames lent x left → WritesBook frames lent y left'
     → (x ≡ y) × (left ≡ left')
@@ -69,23 +70,23 @@ write_book_one p q = promise_one (λ z a b. always_one (λ v w. v.is ∙ sym w.i
 
 -- what is a book
 
-pub book_exactly : (book : List ℕ) {x : Looked} (count : ℕ) → AreBytes book → Looks book x → ((x.outcome ≡ Done) × (x.count ≡ count)) ↔ IsBook book count
-book_exactly book {x} count b p = (λ (e, c). there e c, back)
+pub book_exactly : (book : List ℕ) (x : Result ℕ Refusal) (count : ℕ) → AreBytes book → Looks book x → ((outcome_of x ≡ Ok tt) × (result_unwrap_or x 0 ≡ count)) ↔ IsBook book count
+book_exactly book x count b p = (λ (e, c). there e c, back)
   where
-    there : x.outcome ≡ Done → x.count ≡ count → IsBook book count
+    there : outcome_of x ≡ Ok tt → result_unwrap_or x 0 ≡ count → IsBook book count
     there e c =
         let z = done_passed p e in
         subst (IsBook book) (sym (p.done z).did.is ∙ c) (passes_book book b (passed book z))
 
-    back : IsBook book count → (x.outcome ≡ Done) × (x.count ≡ count)
+    back : IsBook book count → (outcome_of x ≡ Ok tt) × (result_unwrap_or x 0 ≡ count)
     back k =
         let z = book_passes k in
         ((p.done z).is_done, (p.done z).did.is ∙ book_count k)
 
 -- reading back
 
-module _ {book : List ℕ} {count : ℕ} (b : IsBook book count) {i : ℕ} {x : Found} (p : Finds book i x) where
-  found_there : i < count → (x.outcome ≡ Done) × (x.from ≡ frame_start book count i) × (x.to ≡ frame_start book count (i + 1))
+module _ {book : List ℕ} {count : ℕ} (b : IsBook book count) {i : ℕ} (x : Result Found Refusal) (p : Finds book i x) where
+  found_there : i < count → (outcome_of x ≡ Ok tt) × ((span_of x).from ≡ frame_start book count i) × ((span_of x).to ≡ frame_start book count (i + 1))
   found_there h =
       let below : i < count_of book = omega (arith, book_count b) in
       let d = p.done (frame_passes book i (book_passes b) below) in (
@@ -94,7 +95,7 @@ module _ {book : List ℕ} {count : ℕ} (b : IsBook book count) {i : ℕ} {x : 
         d.did.ends ∙ ap (λ (n : ℕ). frame_start book n (i + 1)) (book_count b),
       )
 
-  found_nowhere : count ≤ i → (x.outcome ≡ Refused NoSuchFrame) × (span_of x ≡ empty_span)
+  found_nowhere : count ≤ i → (outcome_of x ≡ Err NoSuchFrame) × (span_of x ≡ empty_span)
   found_nowhere h =
       let past : count_of book ≤ i = omega (arith, book_count b) in
       p.refused NoSuchFrame (earlier_pass (book_checks book) (number_checks (count_of book) i) (book_passes b) ∙ rw (le-leb (count_of book) i past))
@@ -106,7 +107,7 @@ frame_behind front frames rest i h =
     ap (take 32) (drop-append-add front (frames ++ rest) (32 * i) ∙ drop-append-le (32 * i) frames rest (omega arith))
     ∙ take-append-le 32 (drop (32 * i) frames) rest (omega (arith, length-drop (32 * i) frames))
 
-module _ {frames lent book : List ℕ} {x : Outcome} (p : WritesBook frames lent x book) (e : x ≡ Done) (front : List ℕ) where
+module _ {frames lent book : List ℕ} {x : Outcome} (p : WritesBook frames lent x book) (e : x ≡ Ok tt) (front : List ℕ) where
   made : Written frames book
   made = (p.done (done_passed p e)).did
 
@@ -123,17 +124,17 @@ module _ {frames lent book : List ℕ} {x : Outcome} (p : WritesBook frames lent
   start : (i : ℕ) → frame_start (front ++ book) (frame_count frames) i ≡ length front + 32 * i
   start i = omega (arith, length-append front book, written_long made, no_piece)
 
-  home_found : (i : ℕ) (y : Found) → Finds (front ++ book) i y → i < frame_count frames
-      → (y.outcome ≡ Done) × (y.from ≡ length front + 32 * i) × (y.to ≡ length front + 32 * i + 32)
+  home_found : (i : ℕ) (y : Result Found Refusal) → Finds (front ++ book) i y → i < frame_count frames
+      → (outcome_of y ≡ Ok tt) × ((span_of y).from ≡ length front + 32 * i) × ((span_of y).to ≡ length front + 32 * i + 32)
   home_found i y q h =
-      let (o, from, to) = found_there whole q h in
+      let (o, from, to) = found_there whole y q h in
       (o, from ∙ start i, to ∙ start (i + 1) ∙ omega arith)
 
   home_frame : (book' r : Bor (List ℕ)) (i : ℕ) → book'.now ≡ front ++ book → ReadsPart book' i r → i < frame_count frames
       → (r.now ≡ frame_at frames i) × (r.ref_ptr ≡ (book'.ref_ptr.0, length front + 32 * i + book'.ref_ptr.1))
   home_frame book' r i s q h =
       let (o, from, to) = home_found i q.found (subst (λ (l : List ℕ). Finds l i q.found) s q.finds) h in
-      let long : q.found.to - q.found.from ≡ 32 = omega arith in (
+      let long : (span_of q.found).to - (span_of q.found).from ≡ 32 = omega arith in (
         q.part.holds
             ∙ ap₂ (λ (n a : ℕ). take n (drop a book'.now)) long from
             ∙ ap (λ (l : List ℕ). take 32 (drop (length front + 32 * i) l)) (s ∙ ap (λ (l : List ℕ). front ++ l) made.is)
@@ -141,8 +142,8 @@ module _ {frames lent book : List ℕ} {x : Outcome} (p : WritesBook frames lent
         q.part.lies ∙ ap (λ (a : ℕ). (book'.ref_ptr.0, a + book'.ref_ptr.1)) from,
       )
 
-  home_none : (i : ℕ) (y : Found) → Finds (front ++ book) i y → frame_count frames ≤ i → (y.outcome ≡ Refused NoSuchFrame) × (span_of y ≡ empty_span)
-  home_none i y q h = found_nowhere whole q h
+  home_none : (i : ℕ) (y : Result Found Refusal) → Finds (front ++ book) i y → frame_count frames ≤ i → (outcome_of y ≡ Err NoSuchFrame) × (span_of y ≡ empty_span)
+  home_none i y q h = found_nowhere whole y q h
 
   home_empty : (book' r : Bor (List ℕ)) (i : ℕ) → book'.now ≡ front ++ book → ReadsPart book' i r → frame_count frames ≤ i
       → (r.now ≡ []) × (r.ref_ptr ≡ book'.ref_ptr)
@@ -184,12 +185,12 @@ module _ {frames lent book : List ℕ} {x : Outcome} (p : WritesBook frames lent
   home_listed (refuses r z w) = absurd (not_done (sym z ∙ book_passes whole))
 
 -- what stands before the frames is not looked at: other bytes there, as many, give the same answer
-pub find_behind : (front front' rest : List ℕ) {i : ℕ} {x y : Found} → length front ≡ length front' → 16 ≤ length rest → Finds (front ++ rest) i x
+pub find_behind : (front front' rest : List ℕ) {i : ℕ} (x y : Result Found Refusal) → length front ≡ length front' → 16 ≤ length rest → Finds (front ++ rest) i x
     → Finds (front' ++ rest) i y → x ≡ y
-find_behind front front' rest {i} e h p q =
+find_behind front front' rest {i} x y e h p q =
     let long = length-append front rest ∙ ap (λ (n : ℕ). n + length rest) e ∙ sym (length-append front' rest) in
     let same = front_trailer front rest h ∙ sym (front_trailer front' rest h) in
-    find_one (front' ++ rest) i (same_finds (front ++ rest) (front' ++ rest) long same p) q
+    find_one (front' ++ rest) i x y (same_finds (front ++ rest) (front' ++ rest) long same x p) q
 
 -- what is listed of a book is one text
 pub list_book_one : {book lent left left' : List ℕ} {end end' : ℕ} → ListsBook book lent left end → ListsBook book lent left' end'

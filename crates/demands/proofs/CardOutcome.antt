@@ -25,11 +25,11 @@ alike : {A R : Type 0} {layout : A → R} {P Q : A → Type 0} {r s : R} (p : La
 alike {layout = layout} p q e = p.is ∙ ap layout e ∙ sym q.is
 
 pub sizes_card_one : {m t : ℕ} {r s : SizesAnswer} → SizesAs m t r → SizesAs m t s → r ≡ s
-sizes_card_one p q = alike p q (sizes_one p.promised q.promised)
+sizes_card_one p q = alike p q (sizes_one p.answer q.answer p.promised q.promised)
 
 pub describe_card_one : {m t : ℕ} {lent left left' : List ℕ} {r s : SizesAnswer} → DescribesAs m t lent r left → DescribesAs m t lent s left'
     → (r ≡ s) × (left ≡ left')
-describe_card_one p q = let (e, l) = describe_one p.promised q.promised in (alike p q e, l)
+describe_card_one p q = let (e, l) = describe_one p.answer q.answer p.promised q.promised in (alike p q e, l)
 
 pub encode_card_one : {m t : ℕ} {message lent left left' : List ℕ} {r s : Told} → EncodesAs m t message lent r left → EncodesAs m t message lent s left'
     → (r ≡ s) × (left ≡ left')
@@ -46,28 +46,28 @@ make_card_one p q = let (e, l) = make_one p.promised q.promised in (alike p q e,
 pub decode_card_one : {m t : ℕ} {received lentWord lentList word list word' list' : List ℕ} {r s : DecodeAnswer}
     → DecodesAs m t received lentWord lentList r word list → DecodesAs m t received lentWord lentList s word' list'
     → (r ≡ s) × (word ≡ word') × (list ≡ list')
-decode_card_one p q = let (e, w, l) = decode_one p.promised q.promised in (alike p q e, w, l)
+decode_card_one p q = let (e, w, l) = decode_one p.answer q.answer p.promised q.promised in (alike p q e, w, l)
 
 pub decode_kept_card_one : (stored : Record) {lentWord lentList word list word' list' : List ℕ} {r s : DecodeKeptAnswer}
     → DecodesKeptAs stored lentWord lentList r word list → DecodesKeptAs stored lentWord lentList s word' list'
     → (r ≡ s) × (word ≡ word') × (list ≡ list')
-decode_kept_card_one stored p q = let (e, w, l) = decode_kept_one p.promised q.promised in (alike p q e, w, l)
+decode_kept_card_one stored p q = let (e, w, l) = decode_kept_one p.answer q.answer p.promised q.promised in (alike p q e, w, l)
 
 pub open_card_one : {m t : ℕ} {word : List ℕ} {r s : KeptAnswer} → OpensAs m t word r → OpensAs m t word s → r ≡ s
-open_card_one p q = alike p q (open_one p.promised q.promised)
+open_card_one p q = alike p q (open_one p.answer q.answer p.promised q.promised)
 
 pub splice_card_one : (stored : Record) {start : ℕ} {stretch : List ℕ} {r s : KeptAnswer} → SplicesAs stored start stretch r → SplicesAs stored start stretch s
     → r ≡ s
-splice_card_one stored p q = alike p q (splice_one p.promised q.promised)
+splice_card_one stored p q = alike p q (splice_one p.answer q.answer p.promised q.promised)
 
 pub read_card_one : (frame : List ℕ) {r s : ReadAnswer} → ReadsAs frame r → ReadsAs frame s → r ≡ s
-read_card_one frame p q = alike p q (read_one frame p.promised q.promised)
+read_card_one frame p q = alike p q (read_one frame p.answer q.answer p.promised q.promised)
 
 pub look_card_one : (book : List ℕ) {r s : LookAnswer} → LooksAs book r → LooksAs book s → r ≡ s
-look_card_one book p q = alike p q (look_one book p.promised q.promised)
+look_card_one book p q = alike p q (look_one book p.answer q.answer p.promised q.promised)
 
 pub read_book_card_one : (book : List ℕ) (i : ℕ) {r s : PartAnswer} → ReadsBookAs book i r → ReadsBookAs book i s → r ≡ s
-read_book_card_one book i p q = alike p q (find_one book i p.promised q.promised)
+read_book_card_one book i p q = alike p q (find_one book i p.answer q.answer p.promised q.promised)
 
 pub write_book_card_one : {frames lent left left' : List ℕ} {r s : ℕ} → WritesBookAs frames lent r left → WritesBookAs frames lent s left'
     → (r ≡ s) × (left ≡ left')

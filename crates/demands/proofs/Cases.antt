@@ -8,10 +8,10 @@ use Prim.Native.Nat.{ℕ, zero, suc, ◌+◌, ◌-◌, ◌*◌, ◌^◌, ◌≤�
 use native.Mathlib.Omega.{arith}
 use lib.Dec.{T, eqb, leb, eqb→eq, leb→le}
 use lib.ListN.{length, get_or, replicate, length-replicate}
+use Rattle.std.specs.Prelude.{Result, Ok, Err}
 use Rattle.sheet.specs.declared.Refusal.{Refusal}
 use Rattle.sheet.specs.declared.Refusal.TheVariants.{NothingNear, LeadBits}
-use Rattle.sheet.specs.declared.Outcome.{Outcome}
-use Rattle.sheet.specs.declared.Outcome.TheVariants.{Done, Refused}
+use Rattle.sheet.specs.Number.{Outcome, outcome_of}
 use Rattle.sheet.specs.declared.Told.{Told}
 use Rattle.sheet.specs.Number.{outcome_told, number_of, outcome_number}
 use Rattle.sheet.specs.Verdict.{verdict, finds_nothing}
@@ -33,11 +33,9 @@ use Rattle.codes.specs.Encoding.{Encoding}
 use Rattle.codes.proofs.SumLaws.{odd_sums}
 use Rattle.codec.specs.Encode.{Encodes, encode_checks}
 use Rattle.codec.specs.Edit.{Edits, edit_checks}
-use Rattle.decode.specs.declared.Decoded.{Decoded}
 use Rattle.decode.specs.Decode.{Decodes, Mended, Mends, Far, decode_checks}
 use Rattle.decode.proofs.DecodeLaws.{near_located}
 use Rattle.kept.specs.declared.Kept.{Kept}
-use Rattle.kept.specs.declared.Answer.{Answer}
 use Rattle.kept.specs.Record.{some_at_least}
 use Rattle.splice.specs.Splice.{Splices, splice_checks}
 use Rattle.layout.specs.Frame.{sent_bit, place_bit, word_of}
@@ -45,7 +43,7 @@ use Rattle.frame.specs.declared.reading.ReadFrame.{ReadFrame}
 use Rattle.frame.specs.Read.{Reads, frame_checks, given_by, zeros}
 use Rattle.book.specs.declared.reading.Found.{Found}
 use Rattle.book.specs.Book.{mark, frame_start}
-use Rattle.book.specs.Read.{has_mark, number_at, count_of, lacks_trailer, size_is_wrong, find_checks, Span, Finds}
+use Rattle.book.specs.Read.{span_of, has_mark, number_at, count_of, lacks_trailer, size_is_wrong, find_checks, Span, Finds}
 use Rattle.demands.proofs.OneOutcome.{encode_one}
 use Rattle.demands.proofs.Near.{mended_by, mended_is, decode_one}
 use Rattle.demands.specs.Words.{StuckAt}
@@ -129,8 +127,8 @@ unfolding bits_at
 bits_at_bits n ps = bits_flipped ps (bits_replicate n)
 
 -- the answer that no code word is near
-abbrev pub nothing_near : Decoded
-nothing_near = record { outcome = Refused NothingNear; wrong = 0 }
+abbrev pub nothing_near : Result ℕ Refusal
+nothing_near = Err NothingNear
 
 -- the record of zeros of a code
 abbrev pub zeros_of : ℕ → ℕ → Kept
@@ -138,25 +136,25 @@ zeros_of m t = record { m = m; t = t; bits = replicate 1023 0; sums = replicate 
 
 -- every reading of a frame is refused with this number
 abbrev pub Unread : List ℕ → ℕ → Type 0
-Unread frame number = (x : ReadFrame) → Reads frame x → (outcome_number x.outcome ≡ number) × (given_by x ≡ zeros)
+Unread frame number = (x : Result ReadFrame Refusal) → Reads frame x → (outcome_number (outcome_of x) ≡ number) × (given_by x ≡ zeros)
 
 -- what a case says: every outcome that the promise allows is this one
 abbrev pub Holds : Case → Type 0
 Holds (sent m t message word) =
     (lent left : List ℕ) (x : Outcome) → length lent ≡ n_of m → Encodes m t (bits_at (k_of m t) message) lent x left
-    → (x ≡ Done) × (left ≡ bits_at (n_of m) word)
+    → (x ≡ Ok tt) × (left ≡ bits_at (n_of m) word)
 Holds (mended m t received places word) =
-    (lentWord lentList left list : List ℕ) (x : Decoded) → length lentWord ≡ n_of m → length lentList ≡ t
+    (lentWord lentList left list : List ℕ) (x : Result ℕ Refusal) → length lentWord ≡ n_of m → length lentList ≡ t
     → Decodes m t (bits_at (n_of m) received) lentWord lentList x left list
     → (x ≡ mended_by (length places)) × (left ≡ bits_at (n_of m) word) × (list ≡ places ++ replicate (t - length places) 0)
 Holds (far m t received) =
-    (lentWord lentList left list : List ℕ) (x : Decoded) → length lentWord ≡ n_of m → length lentList ≡ t
+    (lentWord lentList left list : List ℕ) (x : Result ℕ Refusal) → length lentWord ≡ n_of m → length lentList ≡ t
     → Decodes m t (bits_at (n_of m) received) lentWord lentList x left list
     → (x ≡ nothing_near) × (left ≡ lentWord) × (list ≡ lentList)
 Holds (told_edit m t word start stretch told) = (left : List ℕ) (x : Outcome) → Edits m t word start stretch x left → outcome_told x ≡ told
-Holds (told_splice m t start stretch told) = (x : Answer) → Splices (zeros_of m t) start stretch x → outcome_told x.outcome ≡ told
-Holds (part_at book i start) = (x : Found) → Finds book i x → (x.outcome ≡ Done) × (x.from ≡ start) × (x.to ≡ start + 32)
-Holds (no_part book i number) = (x : Found) → Finds book i x → (outcome_number x.outcome ≡ number) × (x.from ≡ 0) × (x.to ≡ 0)
+Holds (told_splice m t start stretch told) = (x : Result Kept Refusal) → Splices (zeros_of m t) start stretch x → outcome_told (outcome_of x) ≡ told
+Holds (part_at book i start) = (x : Result Found Refusal) → Finds book i x → (outcome_of x ≡ Ok tt) × ((span_of x).from ≡ start) × ((span_of x).to ≡ start + 32)
+Holds (no_part book i number) = (x : Result Found Refusal) → Finds book i x → (outcome_number (outcome_of x) ≡ number) × ((span_of x).from ≡ 0) × ((span_of x).to ≡ 0)
 Holds (no_frame frame number) = Unread frame number
 Holds (stuck_line bit frame) = Unread frame 11
 Holds (summed m received sums) = (i : ℕ) → i < length sums → sum_of m (2 * i + 1) (bits_at (n_of m) received) ≡ get_or sums i 0
@@ -172,8 +170,8 @@ same_list (x ∷ xs) (y ∷ ys) = both (eqb x y) (same_list xs ys)
 
 -- the checks come to nothing
 unfoldable is_done : Outcome → Bool
-is_done Done = true
-is_done (Refused r) = false
+is_done (Ok u) = true
+is_done (Err r) = false
 
 -- the checks come to an outcome of which this is told
 unfoldable tells_as : Outcome → Told → Bool
@@ -228,8 +226,8 @@ stuck_tests bit frame =
 
 -- the checks come to the refusal with this number
 unfoldable refuses : Outcome → ℕ → Bool
-refuses Done number = false
-refuses (Refused r) number = eqb (number_of r) number
+refuses (Ok u) number = false
+refuses (Err r) number = eqb (number_of r) number
 
 unfoldable test : Case → Bool
 test (sent m t message word) = all (sent_tests m t message word)
@@ -270,10 +268,10 @@ code_word {m} t L ps z =
           (λ i h. eqb→eq (sum_of m (2 * i + 1) word) 0 (below_passed (λ j. eqb (sum_of m (2 * j + 1) word) 0) t z i h));
     }
 
-done_is : (v : Outcome) → T (is_done v) → v ≡ Done
+done_is : (v : Outcome) → T (is_done v) → v ≡ Ok tt
 unfolding is_done
-done_is Done t = refl
-done_is (Refused r) t = absurd t
+done_is (Ok u) t = refl
+done_is (Err r) t = absurd t
 
 same_told : {x y : Told} → x.number ≡ y.number → x.buffer ≡ y.buffer → x.place ≡ y.place → x ≡ y
 same_told {x} {y} n b p = ap₂ (of x.number) b p ∙ ap (λ (k : ℕ). of k y.buffer y.place) n
@@ -300,7 +298,7 @@ decode_lent : (m t : ℕ) (received word list word' list' : List ℕ) → length
 decode_lent m t received word list word' list' e l = rw (e, l) refl
 
 lent_passes : (m t : ℕ) (received word lentWord lentList : List ℕ) → length lentWord ≡ n_of m → length lentList ≡ t → T (checks_pass m t received word)
-    → code_verdict m t (decode_checks received lentWord lentList) ≡ Done
+    → code_verdict m t (decode_checks received lentWord lentList) ≡ Ok tt
 unfolding checks_pass
 lent_passes m t received word lentWord lentList k l a =
     decode_lent m t received lentWord lentList (bits_at (n_of m) word) (replicate t 0) (k ∙ sym (bits_at_long (n_of m) word))
@@ -313,7 +311,7 @@ sent_holds m t message word (also a (also b (also c done))) lent left x l p = en
     bits : List ℕ
     bits = bits_at (k_of m t) message
 
-    z : code_verdict m t (encode_checks bits lent) ≡ Done
+    z : code_verdict m t (encode_checks bits lent) ≡ Ok tt
     z = encode_lent m t bits lent (bits_at (n_of m) word) (l ∙ sym (bits_at_long (n_of m) word)) ∙ done_is _ a
 
     E : Encoding m t (k_of m t) bits (bits_at (n_of m) word)
@@ -326,12 +324,12 @@ sent_holds m t message word (also a (also b (also c done))) lent left x l p = en
 
 mended_holds : (m t : ℕ) (received places word : List ℕ) → All (mended_tests m t received places word) → Holds (mended m t received places word)
 unfolding mended_tests
-mended_holds m t received places word (also a (also b (also c (also d done)))) lentWord lentList left list x k l p = mended_is given mends z p
+mended_holds m t received places word (also a (also b (also c (also d done)))) lentWord lentList left list x k l p = mended_is x given mends z p
   where
     came : List ℕ
     came = bits_at (n_of m) received
 
-    z : code_verdict m t (decode_checks came lentWord lentList) ≡ Done
+    z : code_verdict m t (decode_checks came lentWord lentList) ≡ Ok tt
     z = lent_passes m t came word lentWord lentList k l a
 
     differ : differences came (bits_at (n_of m) word) ≡ places
@@ -352,7 +350,7 @@ mended_holds m t received places word (also a (also b (also c (also d done)))) l
 far_holds : (m t : ℕ) (received : List ℕ) → All (far_tests m t received) → Holds (far m t received)
 unfolding far_tests
 far_holds m t received (also a (also b done)) lentWord lentList left list x k l p =
-    decode_one p (record { promise = does z (finds_nothing refl nothing refl) })
+    decode_one x nothing_near p (record { promise = does z (finds_nothing refl nothing refl) })
   where
     came : List ℕ
     came = bits_at (n_of m) received
@@ -360,7 +358,7 @@ far_holds m t received (also a (also b done)) lentWord lentList left list x k l 
     f : ℕ → ℕ
     f i = sum_of m (2 * i + 1) came
 
-    z : code_verdict m t (decode_checks came lentWord lentList) ≡ Done
+    z : code_verdict m t (decode_checks came lentWord lentList) ≡ Ok tt
     z = lent_passes m t came received lentWord lentList k l a
 
     nothing : Far m t t came
@@ -381,10 +379,10 @@ part_holds book i start (also a (also b (also c done))) x p =
     (d.is_done, d.did.starts ∙ eqb→eq _ _ b, d.did.ends ∙ eqb→eq _ _ c)
 
 -- checks that refuse with a number come to a refusal that has it
-refusal_with : (o : Outcome) (number : ℕ) → T (refuses o number) → (r : Refusal) × (o ≡ Refused r) × (number_of r ≡ number)
+refusal_with : (o : Outcome) (number : ℕ) → T (refuses o number) → (r : Refusal) × (o ≡ Err r) × (number_of r ≡ number)
 unfolding refuses
-refusal_with Done number t = absurd t
-refusal_with (Refused r) number t = (r, refl, eqb→eq (number_of r) number t)
+refusal_with (Ok u) number t = absurd t
+refusal_with (Err r) number t = (r, refl, eqb→eq (number_of r) number t)
 
 none_holds : (book : List ℕ) (i number : ℕ) → T (refuses (verdict (find_checks book i)) number) → Holds (no_part book i number)
 none_holds book i number t x p =
@@ -401,8 +399,8 @@ no_frame_holds frame number t x p =
 stuck_holds : (bit : ℕ) (frame : List ℕ) → All (stuck_tests bit frame) → Unread frame 11
 unfolding stuck_tests
 stuck_holds bit frame (also a (also b (also c (also d done)))) x p =
-    let refused : x.outcome ≡ Refused LeadBits = rw (eqb→eq (sent_bit frame 255) 0 c) at (stuck_refused frame (either bit (leb→le bit 1 a) d) p) in
-    (ap outcome_number refused, read_stays frame p (λ e. absurd (not_done (sym refused ∙ e))))
+    let refused : outcome_of x ≡ Err LeadBits = rw (eqb→eq (sent_bit frame 255) 0 c) at (stuck_refused frame x (either bit (leb→le bit 1 a) d) p) in
+    (ap outcome_number refused, read_stays frame x p (λ e. absurd (not_done (sym refused ∙ e))))
   where
     stuck : (v : ℕ) → T (leb (distance (word_of frame) (replicate 255 v)) 23) → StuckAt v frame
     stuck v t = record { long = eqb→eq (length frame) 32 b; changed = leb→le (distance (word_of frame) (replicate 255 v)) 23 t }

@@ -9,8 +9,10 @@ use borrow.Author.Tests.{le-ltb}
 use lib.Dec.{eqb}
 use lib.ListN.{length, get_or, take, drop, replicate, length-append, length-replicate}
 use lib.Seq.{paste, length-paste, length-take-le, take_at}
-use Rattle.sheet.specs.declared.Outcome.{Outcome}
-use Rattle.sheet.specs.declared.Outcome.TheVariants.{Done}
+use Rattle.std.specs.Result.{result_unwrap_or}
+use Rattle.std.specs.Prelude.{Result, Ok}
+use Rattle.sheet.specs.declared.Refusal.{Refusal}
+use Rattle.sheet.specs.Number.{Outcome, outcome_of}
 use Rattle.sheet.specs.declared.Refusal.TheVariants.{InputLength, OutputLength, BitAboveOne, RecordContents}
 use Rattle.sheet.specs.Verdict.{Check, ◌⇒◌, verdict, Searches, finds, finds_nothing}
 use Rattle.sheet.proofs.VerdictLaws.{equal, done_passed}
@@ -26,12 +28,10 @@ use Rattle.codes.specs.Work.{Known}
 use Rattle.codes.specs.Sums.{sum_of, sum_over}
 use Rattle.codes.proofs.CheckLaws.{past, code_passes}
 use Rattle.codes.proofs.SumLaws.{sum_bounded, sum-differences}
-use Rattle.decode.specs.declared.Decoded.{Decoded}
 use Rattle.decode.specs.Decode.{Decodes, Mended, MendsWithin, decode_checks, as_lent}
 use Rattle.decode.proofs.DecodeLaws.{mends, nothing_near_lem}
 use Rattle.kept.specs.declared.Kept.{Kept}
-use Rattle.kept.specs.declared.Answer.{Answer}
-use Rattle.kept.specs.Record.{Whole, bad_record}
+use Rattle.kept.specs.Record.{Whole, bad_record, zero_kept}
 use Rattle.kept.specs.Open.{Opens, Opened, open_checks}
 use Rattle.kept.specs.Work.{OpenReady}
 use Rattle.kept.proofs.OpenLaws.{open_ready}
@@ -41,7 +41,8 @@ use Rattle.splice.specs.Work.{SpliceReady}
 use Rattle.decode_kept.specs.DecodeKept.{DecodesKept, MendsKept, NoSet, decode_kept_checks}
 use Rattle.demands.specs.Words.{After, spliced, resulting}
 use Rattle.demands.proofs.Near.{decode_one}
-use Rattle.demands.proofs.KeptOutcome.{splice_verdict, kept_code, splice_accepted, splice_refused, answer_same, opened_one}
+use Rattle.demands.proofs.OneOutcome.{same_answer}
+use Rattle.demands.proofs.KeptOutcome.{splice_verdict, kept_code, splice_accepted, splice_refused, opened_one}
 
 -- the word that a record keeps
 abbrev pub kept_word : Kept → List ℕ
@@ -93,7 +94,7 @@ module _ {m t : ℕ} {word : List ℕ} {stored : Kept} (R : OpenReady (code_of m
       }
 
 -- what the checks of an accepted Open leave
-open_accepted : (m t : ℕ) (word : List ℕ) → code_verdict m t (open_checks word) ≡ Done → OpenReady (code_of m t) word
+open_accepted : (m t : ℕ) (word : List ℕ) → code_verdict m t (open_checks word) ≡ Ok tt → OpenReady (code_of m t) word
 open_accepted m t word z = let p = past m t (open_checks word (code_of m t)) z in open_ready word p.known p.rest
 
 -- a splice
@@ -155,9 +156,9 @@ module _ {stored : Kept} (F : Faithful stored) (lentWord lentList : List ℕ) wh
       finds e (mends F.known.of_m.listed F.bits (word_long F) F.sums M.located M.counts M.is_word M.is_list)
   same_search (finds_nothing e none s) = finds_nothing e (nothing_near_lem F.known.of_m.listed F.bits (word_long F) F.sums none) s
 
-  decodes_kept : {x : Decoded} {word list : List ℕ} → DecodesKept stored lentWord lentList x word list
+  decodes_kept : (x : Result ℕ Refusal) {word list : List ℕ} → DecodesKept stored lentWord lentList x word list
       → Decodes stored.m stored.t (kept_word stored) lentWord lentList x word list
-  decodes_kept p =
+  decodes_kept x p =
       record {
         promise = record {
           refused = λ r z. p.promise.refused r (sym same_verdict ∙ z);
@@ -165,9 +166,9 @@ module _ {stored : Kept} (F : Faithful stored) (lentWord lentList : List ℕ) wh
         };
       }
 
-  faithful_decodes : {x y : Decoded} {word list word' list' : List ℕ} → DecodesKept stored lentWord lentList x word list
+  faithful_decodes : (x y : Result ℕ Refusal) {word list word' list' : List ℕ} → DecodesKept stored lentWord lentList x word list
       → Decodes stored.m stored.t (kept_word stored) lentWord lentList y word' list' → (x ≡ y) × (word ≡ word') × (list ≡ list')
-  faithful_decodes p q = decode_one (decodes_kept p) q
+  faithful_decodes x y p q = decode_one x y (decodes_kept x p) q
 
 -- a splice into an opened record
 
@@ -179,11 +180,11 @@ module _ {m t : ℕ} {word : List ℕ} {stored : Kept} (R : OpenReady (code_of m
   same_end = ap (runs_past start (length stretch)) (R.long ∙ sym (ap n_of O.m_is))
 
   -- it is accepted exactly if the stretch ends in time and holds bits
-  accepted : runs_past start (length stretch) (length word) ≡ false → has_bad_bit stretch ≡ false → splice_verdict stored start stretch ≡ Done
+  accepted : runs_past start (length stretch) (length word) ≡ false → has_bad_bit stretch ≡ false → splice_verdict stored start stretch ≡ Ok tt
   accepted e f =
       code_passes faithful.known (splice_checks stored start stretch (kept_code stored)) (passes faithful, (sym same_end ∙ e, (f, tt)))
 
-  module _ (z : splice_verdict stored start stretch ≡ Done) where
+  module _ (z : splice_verdict stored start stretch ≡ Ok tt) where
     ready : SpliceReady (kept_code stored) stored start stretch
     ready = splice_accepted stored start stretch z
 
@@ -232,16 +233,16 @@ module _ {m t : ℕ} {word : List ℕ} {stored : Kept} (R : OpenReady (code_of m
             ∙ take_at (paste word start stretch (length stretch)) (replicate (1023 - n_of m) 0) (n_of m) pasted_ready.long
 
   -- accepted or refused, the record is the one opened with the bits that result
-  one_splice : {x : Answer} → Splices stored start stretch x
-      → OpenReady (code_of m t) (spliced word (start, stretch)) × Opened (spliced word (start, stretch)) (code_of m t) x.record
-  one_splice {x} p = pick (runs_past start (length stretch) (length word)) (has_bad_bit stretch) refl refl
+  one_splice : (x : Result Kept Refusal) → Splices stored start stretch x
+      → OpenReady (code_of m t) (spliced word (start, stretch)) × Opened (spliced word (start, stretch)) (code_of m t) (result_unwrap_or x stored)
+  one_splice x p = pick (runs_past start (length stretch) (length word)) (has_bad_bit stretch) refl refl
     where
-      as_it_was : splice_verdict stored start stretch ≢ Done → OpenReady (code_of m t) word × Opened word (code_of m t) x.record
-      as_it_was n = (R, subst (Opened word (code_of m t)) (sym (splice_refused (λ e. n (done_passed p.promise e)) p)) O)
+      as_it_was : splice_verdict stored start stretch ≢ Ok tt → OpenReady (code_of m t) word × Opened word (code_of m t) (result_unwrap_or x stored)
+      as_it_was n = (R, subst (Opened word (code_of m t)) (sym (splice_refused x (λ e. n (done_passed p.promise e)) p)) O)
 
       pick : (past bad : Bool) → runs_past start (length stretch) (length word) ≡ past → has_bad_bit stretch ≡ bad
           → OpenReady (code_of m t) (cond (past || bad) word (paste word start stretch (length stretch)))
-          × Opened (cond (past || bad) word (paste word start stretch (length stretch))) (code_of m t) x.record
+          × Opened (cond (past || bad) word (paste word start stretch (length stretch))) (code_of m t) (result_unwrap_or x stored)
       pick true bad e f = as_it_was (λ z. true≢false (sym e ∙ ends_in_time z))
       pick false true e f = as_it_was (λ z. true≢false (sym f ∙ not_bad (ready z).bits))
       pick false false e f = let z = accepted e f in (pasted_ready z, pasted_opened z (p.promise.done z).did)
@@ -252,31 +253,31 @@ after_opened : {m t : ℕ} {word : List ℕ} {stored after : Kept} (splices : Li
     → Opened word (code_of m t) stored → After stored splices after
     → OpenReady (code_of m t) (resulting word splices) × Opened (resulting word splices) (code_of m t) after
 after_opened {m} {t} {word} [] R O e = (R, subst (Opened word (code_of m t)) e O)
-after_opened {m} {t} {word} (s ∷ splices) R O (x, p, rest) =
-    let (Q, P) = one_splice R O s.0 s.1 p in after_opened {m = m} {t = t} {word = spliced word (s.0, s.1)} {stored = x.record} splices Q P rest
+after_opened {m} {t} {word} {stored} (s ∷ splices) R O (x, p, rest) =
+    let (Q, P) = one_splice R O s.0 s.1 x p in after_opened {m = m} {t = t} {word = spliced word (s.0, s.1)} {stored = result_unwrap_or x stored} splices Q P rest
 
-module _ {m t : ℕ} {word : List ℕ} {x : Answer} {stored : Kept} (splices : List (ℕ × List ℕ)) (o : Opens m t word x) (e : x.outcome ≡ Done)
-    (a : After x.record splices stored) where
+module _ {m t : ℕ} {word : List ℕ} (x : Result Kept Refusal) {stored : Kept} (splices : List (ℕ × List ℕ)) (o : Opens m t word x) (e : outcome_of x ≡ Ok tt)
+    (a : After (result_unwrap_or x zero_kept) splices stored) where
   result : OpenReady (code_of m t) (resulting word splices) × Opened (resulting word splices) (code_of m t) stored
   result = let z = done_passed o.promise e in after_opened splices (open_accepted m t word z) (o.promise.done z).did a
 
   -- the record is the one that Open gives for the resulting bits
-  pub kept_as_opened : {y : Answer} → Opens m t (resulting word splices) y → (y.outcome ≡ Done) × (stored ≡ y.record)
-  kept_as_opened q =
+  pub kept_as_opened : (y : Result Kept Refusal) → Opens m t (resulting word splices) y → (outcome_of y ≡ Ok tt) × (stored ≡ result_unwrap_or y zero_kept)
+  kept_as_opened y q =
       let (R, O) = result in
       let d = q.promise.done (code_passes R.known (open_checks (resulting word splices) (code_of m t)) (equal R.long, (not_bad R.bits, tt))) in
       (d.is_done, opened_one O d.did)
 
   -- Decode kept answers as Decode does for the resulting bits: answer, word and list
-  pub kept_as_decoded : {lentWord lentList word₁ list₁ word₂ list₂ : List ℕ} {y y' : Decoded} → DecodesKept stored lentWord lentList y word₁ list₁
+  pub kept_as_decoded : {lentWord lentList word₁ list₁ word₂ list₂ : List ℕ} (y y' : Result ℕ Refusal) → DecodesKept stored lentWord lentList y word₁ list₁
       → Decodes m t (resulting word splices) lentWord lentList y' word₂ list₂ → (y ≡ y') × (word₁ ≡ word₂) × (list₁ ≡ list₂)
-  kept_as_decoded {lentWord} {lentList} {word₂ = word₂} {list₂} {y' = y'} p q =
+  kept_as_decoded {lentWord} {lentList} {word₂ = word₂} {list₂} y y' p q =
       let (R, O) = result in
-      faithful_decodes (opened_faithful R O) lentWord lentList p (rw (opened_word R O, O.m_is, O.t_is) q)
+      faithful_decodes (opened_faithful R O) lentWord lentList y y' p (rw (opened_word R O, O.m_is, O.t_is) q)
 
   -- the whole word spliced in is that word opened afresh
-  pub whole_splice : {stretch : List ℕ} {y y' : Answer} → Splices stored 0 stretch y → Opens m t stretch y' → y'.outcome ≡ Done → y ≡ y'
-  whole_splice {stretch} {y} p q f =
+  pub whole_splice : {stretch : List ℕ} (y y' : Result Kept Refusal) → Splices stored 0 stretch y → Opens m t stretch y' → outcome_of y' ≡ Ok tt → y ≡ y'
+  whole_splice {stretch} y y' p q f =
       let (R, O) = result in
       let b = done_passed q.promise f in
       let Q = open_accepted m t stretch b in
@@ -285,5 +286,8 @@ module _ {m t : ℕ} {word : List ℕ} {x : Answer} {stored : Kept} (splices : L
       let S = p.promise.done z in
       let long = length-paste (resulting word splices) 0 stretch (length stretch) (omega arith) (omega arith) in
       let whole = copied_whole (resulting word splices) stretch (paste (resulting word splices) 0 stretch (length stretch)) (sym same) long refl in
-      let P = subst (λ (w : List ℕ). Opened w (code_of m t) y.record) whole (pasted_opened R O 0 stretch z S.did) in
-      answer_same (S.is_done ∙ sym (q.promise.done b).is_done, opened_one P (q.promise.done b).did)
+      let P = subst (λ (w : List ℕ). Opened w (code_of m t) (result_unwrap_or y stored)) whole (pasted_opened R O 0 stretch z S.did) in
+      let same_record = opened_one P (q.promise.done b).did in
+      same_answer y y' (S.is_done ∙ sym (q.promise.done b).is_done)
+      (λ (a c : Kept) d e. sym (ap (λ (x : Result Kept Refusal). result_unwrap_or x stored) d) ∙ same_record
+      ∙ ap (λ (x : Result Kept Refusal). result_unwrap_or x zero_kept) e)

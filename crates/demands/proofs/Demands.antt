@@ -4,10 +4,11 @@ use mathlib.Core.List.{List, [], ◌++◌}
 use mathlib.Core.Logic.{◌≢◌, ◌↔◌, ◌⊎◌}
 use Prim.Native.Nat.{ℕ, ◌+◌, ◌/◌, ◌%◌, ◌≤◌}
 use lib.ListN.{length, get_or, replicate}
+use Rattle.std.specs.Result.{result_unwrap_or}
+use Rattle.std.specs.Prelude.{Result, Ok, Err}
 use Rattle.sheet.specs.declared.Refusal.{Refusal}
 use Rattle.sheet.specs.declared.Refusal.TheVariants.{NothingNear}
-use Rattle.sheet.specs.declared.Outcome.{Outcome}
-use Rattle.sheet.specs.declared.Outcome.TheVariants.{Done, Refused}
+use Rattle.sheet.specs.Number.{Outcome, outcome_of}
 use Rattle.sheet.specs.Number.{outcome_told, number_of}
 use Rattle.sheet.specs.Verdict.{verdict}
 use Rattle.sheet.proofs.NumberLaws.{number_tells, outcome_tells}
@@ -23,14 +24,13 @@ use Rattle.codes.specs.Encoding.{Encoding}
 use Rattle.generator.specs.Minimal.{Minimal}
 use Rattle.generator.proofs.MinimalLaws.{minimal_is, minimal_one}
 use Rattle.codec.specs.declared.describing.Described.{Described}
-use Rattle.codec.specs.Sizes.{GivesSizes}
+use Rattle.codec.specs.Sizes.{GivesSizes, sizes_given}
 use Rattle.codec.specs.Describe.{Describes}
 use Rattle.codec.specs.Encode.{Encodes}
 use Rattle.codec.specs.Edit.{Edits}
-use Rattle.decode.specs.declared.Decoded.{Decoded}
 use Rattle.decode.specs.Decode.{Decodes, Far, decode_checks}
 use Rattle.kept.specs.declared.Kept.{Kept}
-use Rattle.kept.specs.declared.Answer.{Answer}
+use Rattle.kept.specs.Record.{zero_kept}
 use Rattle.kept.specs.Open.{Opens}
 use Rattle.splice.specs.Splice.{Splices}
 use Rattle.decode_kept.specs.DecodeKept.{DecodesKept, NoSet, decode_kept_checks}
@@ -39,7 +39,6 @@ use Rattle.layout.specs.Frame.{sent_bit, word_of, Lawful}
 use Rattle.frame.specs.declared.reading.ReadFrame.{ReadFrame}
 use Rattle.frame.specs.Make.{Makes}
 use Rattle.frame.specs.Read.{Reads, frame_checks}
-use Rattle.book.specs.declared.reading.Looked.{Looked}
 use Rattle.book.specs.declared.reading.Found.{Found}
 use Rattle.book.specs.Book.{IsBook, AreBytes}
 use Rattle.book.specs.Read.{Looks, Finds}
@@ -82,18 +81,18 @@ triple {a' = a'} {b' = b'} {c = c} (e, f, g) = ap₂ (λ x y. (x, y, c)) e f ∙
 pub demand_1 : OneOutcome
 demand_1 =
     record {
-      sizes = λ m t x y p q. sizes_one p q;
-      describe = λ m t lent x y p q. pair (describe_one p q);
+      sizes = λ m t x y p q. sizes_one x y p q;
+      describe = λ m t lent x y p q. pair (describe_one x.0 y.0 p q);
       encode = λ m t message lent x y p q. pair (encode_one p q);
-      decode = λ m t received lentWord lentList x y p q. triple (decode_one p q);
+      decode = λ m t received lentWord lentList x y p q. triple (decode_one x.0 y.0 p q);
       edit = λ m t lent start stretch x y p q. pair (edit_one p q);
-      opening = λ m t word x y p q. open_one p q;
-      splice = λ stored start stretch x y p q. splice_one p q;
-      decode_kept = λ stored lentWord lentList x y p q. triple (decode_kept_one p q);
+      opening = λ m t word x y p q. open_one x y p q;
+      splice = λ stored start stretch x y p q. splice_one x y p q;
+      decode_kept = λ stored lentWord lentList x y p q. triple (decode_kept_one x.0 y.0 p q);
       make_frame = λ reading lent x y p q. pair (make_one p q);
-      read_frame = λ frame x y p q. read_one frame p q;
-      look_at_book = λ book x y p q. look_one book p q;
-      find_frame = λ book i x y p q. find_one book i p q;
+      read_frame = λ frame x y p q. read_one frame x y p q;
+      look_at_book = λ book x y p q. look_one book x y p q;
+      find_frame = λ book i x y p q. find_one book i x y p q;
       read_book = λ book r s i p q. read_book_one p q;
       write_book = λ frames lent x y p q. pair (write_book_one p q);
       list_frames = λ first bytes lent x y p q. pair (lists_one p q);
@@ -124,18 +123,18 @@ demand_1_struck = never_answered
 pub demand_1_conditions : OneCondition
 demand_1_conditions =
     record {
-      sizes = λ p. answer_is p.promise;
-      describe = λ p. answer_is p.promise;
+      sizes = λ x p. answer_is p.promise;
+      describe = λ x p. answer_is p.promise;
       encode = λ p. answer_is p.promise;
-      decode = λ p r. decode_refused p r;
+      decode = λ x p r. decode_refused x p r;
       edit = λ p. answer_is p.promise;
-      opening = λ p. answer_is p.promise;
-      splice = λ p. answer_is p.promise;
-      decode_kept = λ p r. decode_kept_refused p r;
+      opening = λ x p. answer_is p.promise;
+      splice = λ x p. answer_is p.promise;
+      decode_kept = λ x p r. decode_kept_refused x p r;
       make_frame = λ p. answer_is p;
-      read_frame = λ frame p r. read_refused frame p r;
-      look_at_book = λ book p. answer_is p;
-      read_book = λ book i p. answer_is p;
+      read_frame = λ frame x p r. read_refused frame x p r;
+      look_at_book = λ book x p. answer_is p;
+      read_book = λ book i x p. answer_is p;
       write_book = λ p. answer_is p;
     }
 
@@ -144,64 +143,64 @@ demand_1_conditions =
 pub demand_1_refused : RefusedStays
 demand_1_refused =
     record {
-      sizes = λ p n. sizes_stays p n;
-      describe = λ p n. describe_stays p n;
+      sizes = λ x p n. sizes_stays x p n;
+      describe = λ x p n. describe_stays x p n;
       encode = λ p n. refused_stays (λ a z. always_stays a z) p.promise n;
-      decode = λ p n. decode_stays p n;
+      decode = λ x p n. decode_stays x p n;
       edit = λ p n. refused_stays (λ a z. always_stays a z) p.promise n;
-      opening = λ p n. refused_stays (λ a z. always_stays a z) p.promise n;
-      splice = λ p n. splice_refused n p;
-      decode_kept = λ p n. decode_kept_stays p n;
+      opening = λ x p n. refused_stays (λ a z. always_stays a z) p.promise n;
+      splice = λ x p n. splice_refused x n p;
+      decode_kept = λ x p n. decode_kept_stays x p n;
       make_frame = λ p n. refused_stays (λ a z. always_stays a z) p n;
-      read_frame = λ frame p n. read_stays frame p n;
-      look_at_book = λ book p n. refused_stays (λ a z. always_stays a z) p n;
-      read_book = λ book i p n. refused_stays (λ a z. always_stays a z) p n;
+      read_frame = λ frame x p n. read_stays frame x p n;
+      look_at_book = λ book x p n. refused_stays (λ a z. always_stays a z) p n;
+      read_book = λ book i x p n. refused_stays (λ a z. always_stays a z) p n;
       write_book = λ p n. refused_stays (λ a z. always_stays a z) p n;
     }
 
 pub demand_1_lent : NeverLookedAt
 demand_1_lent =
     record {
-      describe = λ same p q. describe_lent same p q;
+      describe = λ x y same p q. describe_lent x y same p q;
       encode = λ same p q. encode_lent same p q;
-      decode = λ same same_list_lem p q. decode_lent same same_list_lem p q;
-      decode_kept = λ same same_list_lem p q. decode_kept_lent same same_list_lem p q;
+      decode = λ x y same same_list_lem p q. decode_lent x y same same_list_lem p q;
+      decode_kept = λ x y same same_list_lem p q. decode_kept_lent x y same same_list_lem p q;
       make_frame = λ same p q. make_lent same p q;
       write_book = λ same p q. write_book_lent same p q;
     }
 
 -- docs/SCOPE.md 9: "The code is the binary narrow-sense BCH code, fields of 8 to 1,024 elements, the 232 listed codes." Checks 1 and 2 pass exactly for
 -- these: m is from 3 to 10 and the rule holds of t with some k, and that k is the one of every promise.
-pub demand_2_listed : (m t : ℕ) → (verdict (code_checks m t []) ≡ Done) ↔ (IsField m × ((k : ℕ) × Rule m k t))
+pub demand_2_listed : (m t : ℕ) → (verdict (code_checks m t []) ≡ Ok tt) ↔ (IsField m × ((k : ℕ) × Rule m k t))
 demand_2_listed m t = checks_by_rule m t
 
 pub demand_2_k : {m t k : ℕ} → IsField m → Rule m k t → k ≡ (code_of m t).k
 demand_2_k L R = k_by_rule L R
 
-pub demand_2_number : Numbered (λ (m t : ℕ). verdict (code_checks m t []) ≡ Done) 232
+pub demand_2_number : Numbered (λ (m t : ℕ). verdict (code_checks m t []) ≡ Ok tt) 232
 demand_2_number = codes_in_number
 
 -- Sizes tells them: it is done and gives k exactly if the rule holds, n is 2^m - 1, and Describe answers the same.
-pub demand_2_sizes : {m t : ℕ} {x : Described} → GivesSizes m t x → (k : ℕ) → ((x.outcome ≡ Done) × (x.k ≡ k)) ↔ (IsField m × Rule m k t)
-demand_2_sizes p k = sizes_by_rule p k
+pub demand_2_sizes : {m t : ℕ} (x : Result Described Refusal) → GivesSizes m t x → (k : ℕ) → ((outcome_of x ≡ Ok tt) × ((sizes_given x).k ≡ k)) ↔ (IsField m × Rule m k t)
+demand_2_sizes x p k = sizes_by_rule x p k
 
-pub demand_2_n : {m t : ℕ} {x : Described} → GivesSizes m t x → x.outcome ≡ Done → x.n ≡ n_of m
-demand_2_n p e = sizes_n p e
+pub demand_2_n : {m t : ℕ} (x : Result Described Refusal) → GivesSizes m t x → outcome_of x ≡ Ok tt → (sizes_given x).n ≡ n_of m
+demand_2_n x p e = sizes_n x p e
 
-pub demand_2_described : {m t : ℕ} {lent left : List ℕ} {x y : Described} → GivesSizes m t x → Describes m t lent y left → y.outcome ≡ Done → x ≡ y
-demand_2_described p q e = sizes_as_described p q e
+pub demand_2_described : {m t : ℕ} {lent left : List ℕ} (x y : Result Described Refusal) → GivesSizes m t x → Describes m t lent y left → outcome_of y ≡ Ok tt → x ≡ y
+demand_2_described x y p q e = sizes_as_described x y p q e
 
 -- The field has 2^m elements, every nonzero one has its inverse, and a has order n and no smaller one.
 pub demand_2_field : {m : ℕ} → IsField m → GaloisField m
 demand_2_field L = the_field L
 
 -- The generator is the least common multiple of the minimal polynomials of a, a^3, .. a^(2t-1); there is one minimal polynomial for each power of a.
-pub demand_2_generator : {m t : ℕ} {lent left : List ℕ} {x : Described} → Describes m t lent x left → x.outcome ≡ Done → LeastCommonMultiple m t left
-demand_2_generator p e = generator_is_lcm p e
+pub demand_2_generator : {m t : ℕ} {lent left : List ℕ} (x : Result Described Refusal) → Describes m t lent x left → outcome_of x ≡ Ok tt → LeastCommonMultiple m t left
+demand_2_generator x p e = generator_is_lcm x p e
 
-pub demand_2_only_generator : {m t : ℕ} {lent left : List ℕ} {x : Described} → Describes m t lent x left → x.outcome ≡ Done
+pub demand_2_only_generator : {m t : ℕ} {lent left : List ℕ} (x : Result Described Refusal) → Describes m t lent x left → outcome_of x ≡ Ok tt
     → (h : List ℕ) → LeastCommonMultiple m t h → (i : ℕ) → get_or h i 0 ≡ get_or left i 0
-demand_2_only_generator p e h H = lcm_is_generator p e h H
+demand_2_only_generator x p e h H = lcm_is_generator x p e h H
 
 pub demand_2_minimal : {m i d e : ℕ} {p q : List ℕ} → IsField m → Minimal m i d p → Minimal m i e q → (d ≡ e) × (p ≡ q)
 demand_2_minimal L M N = minimal_one L M N
@@ -210,75 +209,76 @@ pub demand_2_minimals : {m : ℕ} → IsField m → (i : ℕ) → (d : ℕ) × (
 demand_2_minimals L i = minimal_is L i
 
 -- The code words are the words of n bits that the generator divides, and the word of all ones is one of them.
-pub demand_2_multiples : {m t : ℕ} {lent left : List ℕ} {x : Described} → Describes m t lent x left → x.outcome ≡ Done
+pub demand_2_multiples : {m t : ℕ} {lent left : List ℕ} (x : Result Described Refusal) → Describes m t lent x left → outcome_of x ≡ Ok tt
     → (c : List ℕ) → CodeWord m t c ↔ ((length c ≡ n_of m) × AreBits c × Divides left c)
-demand_2_multiples p e c = code_by_generator p e c
+demand_2_multiples x p e c = code_by_generator x p e c
 
-pub demand_2_all_ones : {m t : ℕ} → verdict (code_checks m t []) ≡ Done → CodeWord m t (replicate (n_of m) 1)
+pub demand_2_all_ones : {m t : ℕ} → verdict (code_checks m t []) ≡ Ok tt → CodeWord m t (replicate (n_of m) 1)
 demand_2_all_ones e = all_ones e
 
 -- docs/SCOPE.md 9: "Sending gives the one code word that carries the message in its top places."
-pub demand_2_sending : {m t : ℕ} {message lent left : List ℕ} {x : Outcome} → Encodes m t message lent x left → x ≡ Done
+pub demand_2_sending : {m t : ℕ} {message lent left : List ℕ} {x : Outcome} → Encodes m t message lent x left → x ≡ Ok tt
     → Encoding m t (k_of m t) message left × ((c : List ℕ) → Encoding m t (k_of m t) message c → c ≡ left)
 demand_2_sending p e = encode_sends p e
 
 -- docs/SCOPE.md 9: "Receiving gives the code word within t changed bits of what came in, with those places listed upward,"
-pub demand_2_receiving : {m t : ℕ} {received lentWord lentList word list : List ℕ} {x : Decoded} → Decodes m t received lentWord lentList x word list
-    → x.outcome ≡ Done → Received m t received x.wrong word list
-demand_2_receiving p e = decode_received p e
+pub demand_2_receiving : {m t : ℕ} {received lentWord lentList word list : List ℕ} (x : Result ℕ Refusal) → Decodes m t received lentWord lentList x word list
+    → outcome_of x ≡ Ok tt → Received m t received (result_unwrap_or x 0) word list
+demand_2_receiving x p e = decode_received x p e
 
 -- docs/SCOPE.md 9: "and refuses for want of one exactly when there is none." Decode, Decode kept, and reading a frame.
-pub demand_2_refusing : {m t : ℕ} {received lentWord lentList word list : List ℕ} {x : Decoded} → Decodes m t received lentWord lentList x word list
-    → (x.outcome ≡ Refused NothingNear) ↔ ((code_verdict m t (decode_checks received lentWord lentList) ≡ Done) × Far m t t received)
-demand_2_refusing p = decode_nothing p
+pub demand_2_refusing : {m t : ℕ} {received lentWord lentList word list : List ℕ} (x : Result ℕ Refusal) → Decodes m t received lentWord lentList x word list
+    → (outcome_of x ≡ Err NothingNear) ↔ ((code_verdict m t (decode_checks received lentWord lentList) ≡ Ok tt) × Far m t t received)
+demand_2_refusing x p = decode_nothing x p
 
-pub demand_2_refusing_kept : {stored : Kept} {lentWord lentList word list : List ℕ} {x : Decoded} → DecodesKept stored lentWord lentList x word list
-    → (x.outcome ≡ Refused NothingNear)
-    ↔ ((code_verdict stored.m stored.t (decode_kept_checks stored lentWord lentList) ≡ Done) × NoSet (code_of stored.m stored.t) stored)
-demand_2_refusing_kept p = decode_kept_nothing p
+pub demand_2_refusing_kept : {stored : Kept} {lentWord lentList word list : List ℕ} (x : Result ℕ Refusal) → DecodesKept stored lentWord lentList x word list
+    → (outcome_of x ≡ Err NothingNear)
+    ↔ ((code_verdict stored.m stored.t (decode_kept_checks stored lentWord lentList) ≡ Ok tt) × NoSet (code_of stored.m stored.t) stored)
+demand_2_refusing_kept x p = decode_kept_nothing x p
 
-pub demand_2_refusing_frame : (frame : List ℕ) {x : ReadFrame} → Reads frame x
-    → (x.outcome ≡ Refused NothingNear) ↔ ((verdict (frame_checks frame) ≡ Done) × Far 8 23 23 (word_of frame))
-demand_2_refusing_frame frame p = read_nothing frame p
+pub demand_2_refusing_frame : (frame : List ℕ) (x : Result ReadFrame Refusal) → Reads frame x
+    → (outcome_of x ≡ Err NothingNear) ↔ ((verdict (frame_checks frame) ≡ Ok tt) × Far 8 23 23 (word_of frame))
+demand_2_refusing_frame frame x p = read_nothing frame x p
 
 -- docs/SCOPE.md 5.1: "A mended word always passes this check."
-pub demand_2_mended : {m t : ℕ} {received lentWord lentList word list : List ℕ} {x : Decoded} → Decodes m t received lentWord lentList x word list
-    → x.outcome ≡ Done → PassesAgain m t word
-demand_2_mended p e = mended_again p e
+pub demand_2_mended : {m t : ℕ} {received lentWord lentList word list : List ℕ} (x : Result ℕ Refusal) → Decodes m t received lentWord lentList x word list
+    → outcome_of x ≡ Ok tt → PassesAgain m t word
+demand_2_mended x p e = mended_again x p e
 
 -- docs/SCOPE.md 9: "After an accepted Open and any list of splices, refused ones among them, decoding what is kept answers as 2 does for the
 -- resulting bits taken afresh;" the record is the very one that Open gives for these bits.
-pub demand_3_record : {m t : ℕ} {word : List ℕ} {x y : Answer} {stored : Kept} (splices : List (ℕ × List ℕ)) → Opens m t word x → x.outcome ≡ Done
-    → After x.record splices stored → Opens m t (resulting word splices) y → (y.outcome ≡ Done) × (stored ≡ y.record)
-demand_3_record splices o e a q = kept_as_opened splices o e a q
+pub demand_3_record : {m t : ℕ} {word : List ℕ} (x y : Result Kept Refusal) {stored : Kept} (splices : List (ℕ × List ℕ)) → Opens m t word x → outcome_of x ≡ Ok tt
+    → After (result_unwrap_or x zero_kept) splices stored → Opens m t (resulting word splices) y → (outcome_of y ≡ Ok tt) × (stored ≡ result_unwrap_or y zero_kept)
+demand_3_record x y splices o e a q = kept_as_opened x splices o e a y q
 
-pub demand_3_keeping : {m t : ℕ} {word lentWord lentList word₁ list₁ word₂ list₂ : List ℕ} {x : Answer} {stored : Kept} {y z : Decoded}
-    (splices : List (ℕ × List ℕ)) → Opens m t word x → x.outcome ≡ Done → After x.record splices stored
+pub demand_3_keeping : {m t : ℕ} {word lentWord lentList word₁ list₁ word₂ list₂ : List ℕ} (x : Result Kept Refusal) {stored : Kept} (y z : Result ℕ Refusal)
+    (splices : List (ℕ × List ℕ)) → Opens m t word x → outcome_of x ≡ Ok tt → After (result_unwrap_or x zero_kept) splices stored
     → DecodesKept stored lentWord lentList y word₁ list₁ → Decodes m t (resulting word splices) lentWord lentList z word₂ list₂
     → (y ≡ z) × (word₁ ≡ word₂) × (list₁ ≡ list₂)
-demand_3_keeping splices o e a p q = kept_as_decoded splices o e a p q
+demand_3_keeping x y z splices o e a p q = kept_as_decoded x splices o e a y z p q
 
 -- docs/SCOPE.md 9: "an accepted splice changes only what it names and the sums, a refused one nothing."
-pub demand_3_splicing : {stored : Kept} {start : ℕ} {stretch : List ℕ} {x : Answer} → Splices stored start stretch x
-    → Elsewhere stored start (start + length stretch) x.record
-demand_3_splicing p = splice_only p
+pub demand_3_splicing : {stored : Kept} {start : ℕ} {stretch : List ℕ} (x : Result Kept Refusal) → Splices stored start stretch x
+    → Elsewhere stored start (start + length stretch) (result_unwrap_or x stored)
+demand_3_splicing x p = splice_only x p
 
-pub demand_3_refused : {stored : Kept} {start : ℕ} {stretch : List ℕ} {x : Answer} → Splices stored start stretch x → x.outcome ≢ Done → x.record ≡ stored
-demand_3_refused p n = splice_refused n p
+pub demand_3_refused : {stored : Kept} {start : ℕ} {stretch : List ℕ} (x : Result Kept Refusal) → Splices stored start stretch x → outcome_of x ≢ Ok tt
+    → result_unwrap_or x stored ≡ stored
+demand_3_refused x p n = splice_refused x n p
 
 -- The whole word spliced in, after any splices, is that word opened afresh.
-pub demand_3_whole : {m t : ℕ} {word stretch : List ℕ} {x y z : Answer} {stored : Kept} (splices : List (ℕ × List ℕ)) → Opens m t word x
-    → x.outcome ≡ Done → After x.record splices stored → Splices stored 0 stretch y → Opens m t stretch z → z.outcome ≡ Done → y ≡ z
-demand_3_whole splices o e a p q f = whole_splice splices o e a p q f
+pub demand_3_whole : {m t : ℕ} {word stretch : List ℕ} (x y z : Result Kept Refusal) {stored : Kept} (splices : List (ℕ × List ℕ)) → Opens m t word x
+    → outcome_of x ≡ Ok tt → After (result_unwrap_or x zero_kept) splices stored → Splices stored 0 stretch y → Opens m t stretch z → outcome_of z ≡ Ok tt → y ≡ z
+demand_3_whole x y z splices o e a p q f = whole_splice x splices o e a y z p q f
 
 -- docs/SCOPE.md 9: "A sent word whose message is edited becomes the encoding of the edited message;" which is what an accepted Encode of that message
 -- leaves in its buffer,
-pub demand_3_editing : {m t start : ℕ} {lent stretch left : List ℕ} {x : Outcome} → CodeWord m t lent → Edits m t lent start stretch x left → x ≡ Done
+pub demand_3_editing : {m t start : ℕ} {lent stretch left : List ℕ} {x : Outcome} → CodeWord m t lent → Edits m t lent start stretch x left → x ≡ Ok tt
     → Encoding m t (k_of m t) (edited_message m t lent start stretch) left
 demand_3_editing C p e = edit_encodes C p e
 
 pub demand_3_encoded : {m t start : ℕ} {lent stretch left lent' left' : List ℕ} {x y : Outcome} → CodeWord m t lent → Edits m t lent start stretch x left
-    → x ≡ Done → Encodes m t (edited_message m t lent start stretch) lent' y left' → y ≡ Done → left ≡ left'
+    → x ≡ Ok tt → Encodes m t (edited_message m t lent start stretch) lent' y left' → y ≡ Ok tt → left ≡ left'
 demand_3_encoded C p e q f = edit_as_encoded C p e q f
 
 -- docs/SCOPE.md 9: "only the stretch and the parity change."
@@ -287,13 +287,13 @@ pub demand_3_only : {m t start : ℕ} {lent stretch left : List ℕ} {x : Outcom
 demand_3_only p = edit_only p
 
 -- docs/SCOPE.md 6.2: "What is made reads back as it was made, also with up to 23 changed bits." The changed ones are counted.
-pub frame_home : {reading : Reading} {lent made : List ℕ} (received : List ℕ) {e : ℕ} {x : ReadFrame} → Lawful reading → Makes reading lent Done made
+pub frame_home : {reading : Reading} {lent made : List ℕ} (received : List ℕ) {e : ℕ} (x : Result ReadFrame Refusal) → Lawful reading → Makes reading lent (Ok tt) made
     → length received ≡ 32 → sent_bit received 255 ≡ 0 → distance (word_of made) (word_of received) ≡ e → e ≤ 23 → Reads received x → x ≡ read_as reading e
-frame_home received L p l pad d few r = changed_reads_back received L p l pad d few r
+frame_home received x L p l pad d few r = changed_reads_back received x L p l pad d few r
 
 -- docs/SCOPE.md 6.2: "A line stuck at zero or at one, with up to 23 changed bits, is refused: by 10 if its pad is 1, else by 11."
-pub frame_stuck : (frame : List ℕ) {x : ReadFrame} → StuckAt 0 frame ⊎ StuckAt 1 frame → Reads frame x → x.outcome ≡ Refused (pad_or_lead frame)
-frame_stuck frame s p = stuck_refused frame s p
+pub frame_stuck : (frame : List ℕ) (x : Result ReadFrame Refusal) → StuckAt 0 frame ⊎ StuckAt 1 frame → Reads frame x → outcome_of x ≡ Err (pad_or_lead frame)
+frame_stuck frame x s p = stuck_refused frame x s p
 
 -- The listing says so of it.
 pub frame_stuck_line : (frame : List ℕ) {number : ℕ} {line : List ℕ} → StuckAt 0 frame ⊎ StuckAt 1 frame → LineOf number frame line
@@ -302,20 +302,20 @@ frame_stuck_line frame s p = stuck_listed frame s p
 
 -- docs/SCOPE.md 6.3: "The trailer is always the last 16 bytes, and other bytes may stand before the first frame." Looking at bytes is done and gives a count
 -- exactly if they are a book of so many frames.
-pub book_looked : (book : List ℕ) {x : Looked} (count : ℕ) → AreBytes book → Looks book x → ((x.outcome ≡ Done) × (x.count ≡ count)) ↔ IsBook book count
-book_looked book count b p = book_exactly book count b p
+pub book_looked : (book : List ℕ) (x : Result ℕ Refusal) (count : ℕ) → AreBytes book → Looks book x → ((outcome_of x ≡ Ok tt) × (result_unwrap_or x 0 ≡ count)) ↔ IsBook book count
+book_looked book x count b p = book_exactly book x count b p
 
 -- docs/SCOPE.md 6.3: "What the writer makes from a list of frames, the reader gives back frame for frame," also with other bytes in front.
-pub book_home : {frames lent book : List ℕ} {x : Outcome} → WritesBook frames lent x book → x ≡ Done → (front : List ℕ) → CarriedHome frames front book
+pub book_home : {frames lent book : List ℕ} {x : Outcome} → WritesBook frames lent x book → x ≡ Ok tt → (front : List ℕ) → CarriedHome frames front book
 book_home p e front = book_carried p e front
 
 -- What stands before the frames is not looked at: other bytes there, as many, give the same answer.
-pub book_before : (front front' rest : List ℕ) {i : ℕ} {x y : Found} → length front ≡ length front' → 16 ≤ length rest → Finds (front ++ rest) i x
+pub book_before : (front front' rest : List ℕ) {i : ℕ} (x y : Result Found Refusal) → length front ≡ length front' → 16 ≤ length rest → Finds (front ++ rest) i x
     → Finds (front' ++ rest) i y → x ≡ y
-book_before front front' rest e h p q = find_behind front front' rest e h p q
+book_before front front' rest x y e h p q = find_behind front front' rest x y e h p q
 
 -- Its listing is that of the frames themselves.
-pub book_lines : {frames lent book room left : List ℕ} {x : Outcome} {end : ℕ} → WritesBook frames lent x book → x ≡ Done → (front : List ℕ)
+pub book_lines : {frames lent book room left : List ℕ} {x : Outcome} {end : ℕ} → WritesBook frames lent x book → x ≡ Ok tt → (front : List ℕ)
     → ListsBook (front ++ book) room left end → Lists 1 frames room left end
 book_lines p e front l = home_listed p e front l
 

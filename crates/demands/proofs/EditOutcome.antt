@@ -10,8 +10,8 @@ use borrow.Author.Tests.{le-ltb, ltb-false}
 use lib.Bits.{bit_xor}
 use lib.ListN.{length, get_or, drop, replicate, length-drop, get_or-eq_default}
 use lib.Seq.{paste, get_or-drop}
-use Rattle.sheet.specs.declared.Outcome.{Outcome}
-use Rattle.sheet.specs.declared.Outcome.TheVariants.{Done}
+use Rattle.sheet.specs.Number.{Outcome}
+use Rattle.std.specs.Prelude.{Ok}
 use Rattle.sheet.proofs.VerdictLaws.{Verdict, passed, refused, verdict-cases, always_one, done_passed}
 use Rattle.bits.specs.Bits.{runs_past, added}
 use Rattle.bits.proofs.BitLaws.{added_at_lem, added_back, added_self, bits_added, length-added}
@@ -135,7 +135,7 @@ editing_none {c} {lent = lent} R =
     zeros = rw (R.long ∙ R.known.is_n) (all-zeros c.m c.t)
 
 -- what the checks of an accepted edit leave
-accepted : (m t : ℕ) (lent : List ℕ) (start : ℕ) (stretch : List ℕ) → code_verdict m t (edit_checks lent start stretch) ≡ Done
+accepted : (m t : ℕ) (lent : List ℕ) (start : ℕ) (stretch : List ℕ) → code_verdict m t (edit_checks lent start stretch) ≡ Ok tt
     → EditReady (code_of m t) lent start stretch
 accepted m t lent start stretch z =
     let p = past m t (edit_checks lent start stretch (code_of m t)) z in
@@ -146,13 +146,13 @@ pub edit_one : {m t start : ℕ} {lent stretch left left' : List ℕ} {x y : Out
 edit_one {start = start} {lent} {stretch} p q = code_one (λ c K z a b. always_one (editing_one (edit_ready lent start stretch K z)) a b) p q
 
 -- "The change of the whole word is exactly the code word whose message is the change of the message, also when the word was no code word."
-pub edit_changes : {m t start : ℕ} {lent stretch left : List ℕ} {x : Outcome} → code_verdict m t (edit_checks lent start stretch) ≡ Done
+pub edit_changes : {m t start : ℕ} {lent stretch left : List ℕ} {x : Outcome} → code_verdict m t (edit_checks lent start stretch) ≡ Ok tt
     → Edits m t lent start stretch x left
     → Encoding m t (k_of m t) (added (drop (n_of m - k_of m t) lent) (edited_message m t lent start stretch)) (added lent left)
 edit_changes {m} {t} {start} {lent} {stretch} z p = change_encodes (accepted m t lent start stretch z) (p.promise.done z).did
 
 -- a code word edited is the encoding of the edited message
-pub edit_encodes : {m t start : ℕ} {lent stretch left : List ℕ} {x : Outcome} → CodeWord m t lent → Edits m t lent start stretch x left → x ≡ Done
+pub edit_encodes : {m t start : ℕ} {lent stretch left : List ℕ} {x : Outcome} → CodeWord m t lent → Edits m t lent start stretch x left → x ≡ Ok tt
     → Encoding m t (k_of m t) (edited_message m t lent start stretch) left
 edit_encodes {m} {t} {start} {lent} {stretch} C p e =
     let z = done_passed p.promise e in
@@ -160,7 +160,7 @@ edit_encodes {m} {t} {start} {lent} {stretch} C p e =
 
 -- and what an accepted Encode of that message leaves in its buffer
 pub edit_as_encoded : {m t start : ℕ} {lent stretch left lent' left' : List ℕ} {x y : Outcome} → CodeWord m t lent → Edits m t lent start stretch x left
-    → x ≡ Done → Encodes m t (edited_message m t lent start stretch) lent' y left' → y ≡ Done → left ≡ left'
+    → x ≡ Ok tt → Encodes m t (edited_message m t lent start stretch) lent' y left' → y ≡ Ok tt → left ≡ left'
 edit_as_encoded {m} {t} {start} {lent} {stretch} C p e q f =
     let K = (past m t (edit_checks lent start stretch (code_of m t)) (done_passed p.promise e)).known in
     encoding_one (known_listed K) (edit_encodes C p e) (q.promise.done (done_passed q.promise f)).did
@@ -180,7 +180,7 @@ edit_only {m} {t} {start} {lent} {stretch} {left} d = pick (verdict-cases (code_
         record { long = ap length e; places = λ p h o. ap (λ (xs : List ℕ). get_or xs p 0) e }
 
 -- an accepted empty stretch changes nothing
-pub edit_nothing : {m t start : ℕ} {lent left : List ℕ} {x : Outcome} → code_verdict m t (edit_checks lent start []) ≡ Done
+pub edit_nothing : {m t start : ℕ} {lent left : List ℕ} {x : Outcome} → code_verdict m t (edit_checks lent start []) ≡ Ok tt
     → Edits m t lent start [] x left → left ≡ lent
 edit_nothing {m} {t} {start} {lent} z p =
     let R = accepted m t lent start [] z in

@@ -7,8 +7,9 @@ use native.Mathlib.Decide.{ℕ_discrete}
 use native.Mathlib.Omega.{arith}
 use lib.ListN.{length, get_or}
 use lib.Seq.{ext_get_or}
-use Rattle.sheet.specs.declared.Outcome.{Outcome}
-use Rattle.sheet.specs.declared.Outcome.TheVariants.{Done}
+use Rattle.std.specs.Prelude.{Result, Ok}
+use Rattle.sheet.specs.declared.Refusal.{Refusal}
+use Rattle.sheet.specs.Number.{Outcome, outcome_of}
 use Rattle.sheet.proofs.VerdictLaws.{does, always, always_one, answer_is, promise_one}
 use Rattle.bits.specs.Differences.{distance}
 use Rattle.bits.proofs.DistanceLaws.{distance_comm, distance_self}
@@ -28,6 +29,7 @@ use Rattle.frame.proofs.CodeLaws.{listed}
 use Rattle.frame.proofs.ReadLaws.{frame_passes}
 use Rattle.line.specs.Line.{Writes}
 use Rattle.demands.specs.Words.{read_as}
+use Rattle.demands.proofs.OneOutcome.{same_answer}
 use Rattle.demands.proofs.OneOutcome.{encoding_one}
 use Rattle.demands.proofs.Near.{near_one}
 
@@ -119,16 +121,16 @@ received_one frame (near w D k s) (far e f z) = absurd (f w D k)
 received_one frame (far e f z) (near v C h r) = absurd (f v C h)
 received_one frame (far e f z) (far d g y) = (e ∙ sym d, z ∙ sym y)
 
-answer_same : {x y : ReadFrame} → (x.outcome ≡ y.outcome) × (given_by x ≡ given_by y) → x ≡ y
-answer_same {x} {y} (o, g) =
-    ap₂ (λ (r : Reading) (n : ℕ). of x.outcome r n) (ap (λ (a : Given). a.reading) g) (ap (λ (a : Given). a.wrong) g)
-    ∙ ap (λ (a : Outcome). of a y.reading y.wrong) o
+answer_same : (x y : Result ReadFrame Refusal) → (outcome_of x ≡ outcome_of y) × (given_by x ≡ given_by y) → x ≡ y
+answer_same x y (o, g) = same_answer x y o same
   where
-    of : Outcome → Reading → ℕ → ReadFrame
-    of outcome reading wrong = record { outcome = outcome; reading = reading; wrong = wrong }
+    same : (a b : ReadFrame) → x ≡ Ok a → y ≡ Ok b → a ≡ b
+    same a b e f =
+        let s = sym (ap given_by e) ∙ g ∙ ap given_by f in
+        ap₂ (λ (r : Reading) (n : ℕ). record { reading = r; wrong = n }) (ap (λ (z : Given). z.reading) s) (ap (λ (z : Given). z.wrong) s)
 
-pub read_one : (frame : List ℕ) {x y : ReadFrame} → Reads frame x → Reads frame y → x ≡ y
-read_one frame p q = answer_same (promise_one (λ z a b. received_one frame a b) p q)
+pub read_one : (frame : List ℕ) (x y : Result ReadFrame Refusal) → Reads frame x → Reads frame y → x ≡ y
+read_one frame x y p q = answer_same x y (promise_one (λ z a b. received_one frame a b) p q)
 
 -- a line of the listing
 pub line_one : {line lent left left' : List ℕ} {n n' : ℕ} → Writes line lent left n → Writes line lent left' n' → (n ≡ n') × (left ≡ left')
@@ -154,9 +156,10 @@ made_lead {reading} frame m = lead_right (word_of frame) (record { at = sent })
 
 -- a frame whose word differs from that of a made one in at most 23 places, with the pad left alone, reads back as it was made, and the differences are
 -- counted
-pub changed_reads_back : {reading : Reading} {lent made : List ℕ} (received : List ℕ) {e : ℕ} {y : ReadFrame} → Lawful reading → Makes reading lent Done made
+pub changed_reads_back : {reading : Reading} {lent made : List ℕ} (received : List ℕ) {e : ℕ} (y : Result ReadFrame Refusal) → Lawful reading → Makes reading lent (Ok tt) made
     → length received ≡ 32 → sent_bit received 255 ≡ 0 → distance (word_of made) (word_of received) ≡ e → e ≤ 23 → Reads received y → y ≡ read_as reading e
-changed_reads_back {reading} {lent} {made} received {e} {y} L p l pad d few r = read_one received r (does (frame_passes received l pad) found)
+changed_reads_back {reading} {lent} {made} received {e} y L p l pad d few r =
+    read_one received y (read_as reading e) r (does (frame_passes received l pad) found)
   where
     m : Made reading made
     m = (p.done (sym (answer_is p))).did
@@ -164,14 +167,14 @@ changed_reads_back {reading} {lent} {made} received {e} {y} L p l pad d few r = 
     count : distance (word_of received) (word_of made) ≡ e
     count = distance_comm (word_of received) (word_of made) ∙ d
 
-    found : ReadsReceived (word_of received) Done (record { reading = reading; wrong = e })
+    found : ReadsReceived (word_of received) (Ok tt) (record { reading = reading; wrong = e })
     found =
         near (word_of made) m.encodes.code_word (omega (arith, count))
         (does (rw (made_lead made m)) (always (record { reading = made_carries L m; count = sym count })))
 
 -- what is made for a reading reads back as that reading with nothing wrong
-pub made_reads_back : {reading : Reading} {lent made : List ℕ} {y : ReadFrame} → Lawful reading → Makes reading lent Done made → Reads made y
+pub made_reads_back : {reading : Reading} {lent made : List ℕ} (y : Result ReadFrame Refusal) → Lawful reading → Makes reading lent (Ok tt) made → Reads made y
     → y ≡ read_as reading 0
-made_reads_back {made = made} L p r =
+made_reads_back {made = made} y L p r =
     let m = (p.done (sym (answer_is p))).did in
-    changed_reads_back made L p m.long m.pad (distance_self (word_of made)) (omega arith) r
+    changed_reads_back made y L p m.long m.pad (distance_self (word_of made)) (omega arith) r

@@ -7,17 +7,17 @@ use native.Mathlib.Omega.{arith}
 use lib.ListN.{length, take, drop, length-append, length-drop, length-take}
 use lib.Seq.{take-append-le, drop-append-le, drop-drop}
 use Rattle.sheet.specs.declared.Refusal.TheVariants.{FrameLength}
-use Rattle.sheet.specs.declared.Outcome.{Outcome}
 use Rattle.sheet.proofs.VerdictLaws.{unequal}
-use Rattle.line.specs.Line.{line_for, line_of, refused_line}
+use Rattle.line.specs.Line.{line_of, refused_line}
 use Rattle.lister.specs.Listing.{frame_at, frames_of, LineOf, Lines, no_line, one_more, ListsFirst, Taken, Steps, start, step}
 use Rattle.demands.specs.Words.{joined, EndsShort}
+use Rattle.demands.proofs.OneOutcome.{refused_is}
 use Rattle.demands.proofs.FrameOutcome.{read_one, line_one}
 
 -- one outcome
 
 frame_line_one : (number : ℕ) (frame : List ℕ) {line line' : List ℕ} → LineOf number frame line → LineOf number frame line' → line ≡ line'
-frame_line_one number frame p q = p.is ∙ ap (line_of number) (read_one frame p.reads q.reads) ∙ sym q.is
+frame_line_one number frame p q = p.is ∙ ap (line_of number) (read_one frame p.answer q.answer p.reads q.reads) ∙ sym q.is
 
 pub listing_one : {bytes : List ℕ} {first count : ℕ} {text text' : List ℕ} → Lines bytes first count text → Lines bytes first count text' → text ≡ text'
 listing_one no_line no_line = refl
@@ -40,8 +40,7 @@ nothing_listed p = listing_one p no_line
 short_line : {number : ℕ} (frame : List ℕ) {line : List ℕ} → length frame < 32 → LineOf number frame line → line ≡ refused_line number FrameLength
 short_line {number} frame h p =
     let wrong = unequal {a = length frame} {b = 32} (λ e. omega arith) in
-    let a = p.answer in
-    p.is ∙ ap (λ (o : Outcome). line_for number o a.reading a.wrong) (p.reads.refused FrameLength (rw wrong)).0
+    p.is ∙ ap (line_of number) (refused_is p.answer (p.reads.refused FrameLength (rw wrong)).0)
 
 ends_short : {bytes text : List ℕ} {first n : ℕ} → n ≡ length bytes / 32 → length (frame_at bytes n) < 32 → Lines bytes first (suc n) text
     → EndsShort bytes first text

@@ -7,7 +7,9 @@ use Prim.Native.Nat.{ℕ, ◌+◌, ◌*◌, ◌<◌}
 use native.Mathlib.Omega.{arith}
 use borrow.Author.Tests.{not-false}
 use lib.ListN.{length, get_or, replicate, length-replicate, get_or-eq_default}
-use Rattle.sheet.specs.declared.Outcome.TheVariants.{Done}
+use Rattle.std.specs.Prelude.{Result, Ok}
+use Rattle.sheet.specs.declared.Refusal.{Refusal}
+use Rattle.sheet.specs.Number.{outcome_of}
 use Rattle.sheet.specs.Verdict.{verdict}
 use Rattle.sheet.proofs.VerdictLaws.{all_pass, none_refuses, answer_is, done_passed}
 use Rattle.bits.specs.Bits.{AreBits}
@@ -38,7 +40,7 @@ use Rattle.generator.proofs.Divisors.{divisors_same}
 use Rattle.generator.proofs.Multiple.{multiple, multiple_root}
 use Rattle.generator.proofs.MinimalLaws.{minimal_is, root_multiple}
 use Rattle.codec.specs.declared.describing.Described.{Described}
-use Rattle.codec.specs.Sizes.{GivesSizes}
+use Rattle.codec.specs.Sizes.{GivesSizes, sizes_given}
 use Rattle.codec.specs.Describe.{Describes, describe_checks}
 use Rattle.demands.specs.Words.{Numbered, GaloisField, Divides, CommonMultiple, LeastCommonMultiple}
 use Rattle.demands.proofs.OneOutcome.{answered_one, roots}
@@ -60,16 +62,16 @@ listed_by_rule {m} L t = (to, from)
     from (k, R) = ap not (listed_test ((listed_exactly m k t L).1 R))
 
 -- so both pass exactly if m is from 3 to 10 and the rule holds of t with some k
-pub checks_by_rule : (m t : ℕ) → (verdict (code_checks m t []) ≡ Done) ↔ (IsField m × ((k : ℕ) × Rule m k t))
+pub checks_by_rule : (m t : ℕ) → (verdict (code_checks m t []) ≡ Ok tt) ↔ (IsField m × ((k : ℕ) × Rule m k t))
 checks_by_rule m t = (to, from)
   where
-    to : verdict (code_checks m t []) ≡ Done → IsField m × ((k : ℕ) × Rule m k t)
+    to : verdict (code_checks m t []) ≡ Ok tt → IsField m × ((k : ℕ) × Rule m k t)
     to e =
         let p = all_pass (code_checks m t []) e in
         let L = (field_by_rule m).0 p.0 in
         (L, (listed_by_rule L t).0 p.1.0)
 
-    from : IsField m × ((k : ℕ) × Rule m k t) → verdict (code_checks m t []) ≡ Done
+    from : IsField m × ((k : ℕ) × Rule m k t) → verdict (code_checks m t []) ≡ Ok tt
     from (L, R) = none_refuses (code_checks m t []) ((field_by_rule m).1 L, ((listed_by_rule L t).1 R, tt))
 
 -- and that k is the one of every promise: code_of m t .k
@@ -77,48 +79,48 @@ pub k_by_rule : {m t k : ℕ} → IsField m → Rule m k t → k ≡ k_of m t
 k_by_rule {m} {t} {k} L R = sym (listed_k ((listed_exactly m k t L).1 R))
 
 -- Sizes is done and gives k exactly if the rule holds
-pub sizes_by_rule : {m t : ℕ} {x : Described} → GivesSizes m t x → (k : ℕ) → ((x.outcome ≡ Done) × (x.k ≡ k)) ↔ (IsField m × Rule m k t)
-sizes_by_rule {m} {t} {x} p k = (to, from)
+pub sizes_by_rule : {m t : ℕ} (x : Result Described Refusal) → GivesSizes m t x → (k : ℕ) → ((outcome_of x ≡ Ok tt) × ((sizes_given x).k ≡ k)) ↔ (IsField m × Rule m k t)
+sizes_by_rule {m} {t} x p k = (to, from)
   where
-    to : (x.outcome ≡ Done) × (x.k ≡ k) → IsField m × Rule m k t
+    to : (outcome_of x ≡ Ok tt) × ((sizes_given x).k ≡ k) → IsField m × Rule m k t
     to (e, f) =
         let v = done_passed p.promise e in
         let (L, (j, R)) = (checks_by_rule m t).0 v in
         (L, subst (λ (i : ℕ). Rule m i t) (k_by_rule L R ∙ sym (p.promise.done v).did.is_k ∙ f) R)
 
-    from : IsField m × Rule m k t → (x.outcome ≡ Done) × (x.k ≡ k)
+    from : IsField m × Rule m k t → (outcome_of x ≡ Ok tt) × ((sizes_given x).k ≡ k)
     from (L, R) =
         let v = (checks_by_rule m t).1 (L, (k, R)) in
         (answer_is p.promise ∙ v, (p.promise.done v).did.is_k ∙ sym (k_by_rule L R))
 
-pub sizes_n : {m t : ℕ} {x : Described} → GivesSizes m t x → x.outcome ≡ Done → x.n ≡ n_of m
-sizes_n p e = (p.promise.done (done_passed p.promise e)).did.is_n
+pub sizes_n : {m t : ℕ} (x : Result Described Refusal) → GivesSizes m t x → outcome_of x ≡ Ok tt → (sizes_given x).n ≡ n_of m
+sizes_n x p e = (p.promise.done (done_passed p.promise e)).did.is_n
 
 -- where Describe is done, Sizes answers the same
-pub sizes_as_described : {m t : ℕ} {lent left : List ℕ} {x y : Described} → GivesSizes m t x → Describes m t lent y left → y.outcome ≡ Done → x ≡ y
-sizes_as_described {m} {t} {lent} p q e =
+pub sizes_as_described : {m t : ℕ} {lent left : List ℕ} (x y : Result Described Refusal) → GivesSizes m t x → Describes m t lent y left → outcome_of y ≡ Ok tt → x ≡ y
+sizes_as_described {m} {t} {lent} x y p q e =
     let w = done_passed q.promise e in
     let K = (past m t (describe_checks lent (code_of m t)) w).known in
     let d = p.promise.done (code_passes K [] tt) in
     let g = (q.promise.done w).did in
-    answered_one (d.is_done ∙ sym e) (d.did.is_n ∙ sym g.is_n) (d.did.is_k ∙ sym g.is_k)
+    answered_one x y (d.is_done ∙ sym e) (d.did.is_n ∙ sym g.is_n) (d.did.is_k ∙ sym g.is_k)
 
 -- there are 232 codes
-pub codes_in_number : Numbered (λ (m t : ℕ). verdict (code_checks m t []) ≡ Done) 232
+pub codes_in_number : Numbered (λ (m t : ℕ). verdict (code_checks m t []) ≡ Ok tt) 232
 codes_in_number = record { number = row_of; below = below; own = own; each = each }
   where
-    below : (m t : ℕ) → verdict (code_checks m t []) ≡ Done → row_of m t < 232
+    below : (m t : ℕ) → verdict (code_checks m t []) ≡ Ok tt → row_of m t < 232
     below m t e =
         let K = (past m t [] e).known in
         omega (arith, K.of_m.below, (rows_within K.of_m.listed).most)
 
-    own : (m t m' t' : ℕ) → verdict (code_checks m t []) ≡ Done → verdict (code_checks m' t' []) ≡ Done → row_of m t ≡ row_of m' t' → (m ≡ m') × (t ≡ t')
+    own : (m t m' t' : ℕ) → verdict (code_checks m t []) ≡ Ok tt → verdict (code_checks m' t' []) ≡ Ok tt → row_of m t ≡ row_of m' t' → (m ≡ m') × (t ≡ t')
     own m t m' t' e f s =
         let K = (past m t [] e).known in
         let N = (past m' t' [] f).known in
         (row_one K.of_m (subst (RowOf m') (sym s) N.of_m), K.is_t ∙ ap (λ (r : ℕ). get_or ts r 0) s ∙ sym N.is_t)
 
-    each : (r : ℕ) → r < 232 → (m : ℕ) × (t : ℕ) × (verdict (code_checks m t []) ≡ Done) × (row_of m t ≡ r)
+    each : (r : ℕ) → r < 232 → (m : ℕ) × (t : ℕ) × (verdict (code_checks m t []) ≡ Ok tt) × (row_of m t ≡ r)
     each r h =
         let (m, w) = row_of_lem r h in
         let c : ListedCode m (get_or ks r 0) (get_or ts r 0) = record { row = r; of_m = w; is_k = refl; is_t = refl } in
@@ -186,28 +188,28 @@ module _ {m : ℕ} (L : IsField m) {t d : ℕ} {rs : List ℕ} (R : Roots m t d 
       from (l, b, D) = record { long = l; bits = b; sums = λ j h k. multiple_root L j c G.bits D.bits D.whole (G.sums j h k) }
 
 -- what an accepted Describe leaves in its buffer is that least common multiple
-pub generator_is_lcm : {m t : ℕ} {lent left : List ℕ} {x : Described} → Describes m t lent x left → x.outcome ≡ Done
+pub generator_is_lcm : {m t : ℕ} {lent left : List ℕ} (x : Result Described Refusal) → Describes m t lent x left → outcome_of x ≡ Ok tt
     → LeastCommonMultiple m t left
-generator_is_lcm {m} {t} {lent} p e =
+generator_is_lcm {m} {t} {lent} x p e =
     let z = done_passed p.promise e in
     let K = (past m t (describe_checks lent (code_of m t)) z).known in
     least_common K.of_m.listed (roots (known_listed K)).1 (p.promise.done z).did.is_generator
 
 -- and there is no other: every least common multiple has its places
-pub lcm_is_generator : {m t : ℕ} {lent left : List ℕ} {x : Described} → Describes m t lent x left → x.outcome ≡ Done
+pub lcm_is_generator : {m t : ℕ} {lent left : List ℕ} (x : Result Described Refusal) → Describes m t lent x left → outcome_of x ≡ Ok tt
     → (h : List ℕ) → LeastCommonMultiple m t h → (i : ℕ) → get_or h i 0 ≡ get_or left i 0
-lcm_is_generator {left = left} p e h H =
+lcm_is_generator {left = left} x p e h H =
     let G = (p.promise.done (done_passed p.promise e)).did.is_generator in
-    let M = generator_is_lcm p e in
+    let M = generator_is_lcm x p e in
     let q = M.least h H.common in
     let r = H.least left M.common in
     divisors_same h (record { top = G.top; above = λ i l. get_or-eq_default left 0 {n = i} (omega (arith, G.long)) })
     q.bits r.bits q.whole r.whole
 
 -- and the code words are the words of n bits that it divides
-pub code_by_generator : {m t : ℕ} {lent left : List ℕ} {x : Described} → Describes m t lent x left → x.outcome ≡ Done
+pub code_by_generator : {m t : ℕ} {lent left : List ℕ} (x : Result Described Refusal) → Describes m t lent x left → outcome_of x ≡ Ok tt
     → (c : List ℕ) → CodeWord m t c ↔ ((length c ≡ n_of m) × AreBits c × Divides left c)
-code_by_generator {m} {t} {lent} p e =
+code_by_generator {m} {t} {lent} x p e =
     let z = done_passed p.promise e in
     let K = (past m t (describe_checks lent (code_of m t)) z).known in
     multiples K.of_m.listed (roots (known_listed K)).1 (p.promise.done z).did.is_generator
@@ -217,7 +219,7 @@ pub all-zeros : (m t : ℕ) → CodeWord m t (replicate (n_of m) 0)
 all-zeros m t = record { long = length-replicate {A = ℕ} (n_of m) 0; bits = bits_replicate (n_of m); sums = λ j l u. sum_zeros m j (n_of m) }
 
 -- the word of all ones is in every listed code
-pub all_ones : {m t : ℕ} → verdict (code_checks m t []) ≡ Done → CodeWord m t (replicate (n_of m) 1)
+pub all_ones : {m t : ℕ} → verdict (code_checks m t []) ≡ Ok tt → CodeWord m t (replicate (n_of m) 1)
 all_ones {m} {t} e =
     let K = (past m t [] e).known in
     let f = row_facts K.of_m in

@@ -9,8 +9,7 @@ use Rattle.layout.specs.declared.message.Reading.{Reading}
 use Rattle.layout.specs.Frame.{Lawful}
 use Rattle.line.specs.Line.{decimal, space}
 use Rattle.line.proofs.LineLaws.{decimal_small, decimal_more, decimal_fits}
-use Rattle.typed.specs.declared.Typed.{Typed}
-use Rattle.typed.specs.declared.Typed.TheVariants.{Said, Nothing}
+use Rattle.std.proofs.Common.{Option, Some, None}
 use Rattle.typed.specs.Says.{Digits, value_from, Number, SaysPoll, Says, Answers}
 use Rattle.typed.proofs.SpelledLaws.{value_nil, value_cons, value_last, digits_last}
 use Rattle.typed.proofs.LineLaws.{says_one}
@@ -78,6 +77,6 @@ written_says reading L =
     }
 
 -- what is written for a reading is read as that reading
-pub written_read : (reading : Reading) (answer : Typed) → Lawful reading → Answers (written reading) answer → answer ≡ Said reading
-written_read reading (Said other) L a = ap Said (says_one other reading a (written_says reading L))
-written_read reading Nothing L a = absurd (a reading (written_says reading L))
+pub written_read : (reading : Reading) (answer : Option Reading) → Lawful reading → Answers (written reading) answer → answer ≡ Some reading
+written_read reading (Some other) L a = ap Some (says_one other reading a (written_says reading L))
+written_read reading None L a = absurd (a reading (written_says reading L))

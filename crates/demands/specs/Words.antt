@@ -1,11 +1,11 @@
 -- The words of the three demands (docs/SCOPE.md 9), in which the theorems of proofs/Demands are said.
-use Rattle.std.specs.Prelude.{◌≡◌, cond, ◌||◌, List, [], ◌∷◌, ◌++◌, ◌≢◌, ◌↔◌, ◌⊎◌, ℕ, ◌+◌, ◌-◌, ◌*◌, ◌/◌, ◌^◌, ◌≤◌, ◌<◌, eqb, length, get_or, take, drop, replicate}
+use Rattle.std.specs.Prelude.{◌≡◌, cond, ◌||◌, List, [], ◌∷◌, ◌++◌, ◌≢◌, ◌↔◌, ◌⊎◌, ℕ, ◌+◌, ◌-◌, ◌*◌, ◌/◌, ◌^◌, ◌≤◌, ◌<◌, eqb, length, get_or, take, drop, replicate, Option, Result, Ok, Err}
+use Rattle.std.specs.Result.{result_unwrap_or}
 use Rattle.std.specs.Borrow.{Bor}
 use Rattle.std.proofs.Math.Seq.{paste}
 use Rattle.sheet.specs.declared.Refusal.{Refusal}
 use Rattle.sheet.specs.declared.Refusal.TheVariants.{NothingNear, FrameLength, PadBit, LeadBits, NoSuchFrame}
-use Rattle.sheet.specs.declared.Outcome.{Outcome}
-use Rattle.sheet.specs.declared.Outcome.TheVariants.{Done, Refused}
+use Rattle.sheet.specs.Number.{Outcome, outcome_of}
 use Rattle.sheet.specs.declared.Told.{Told}
 use Rattle.sheet.specs.Number.{struck}
 use Rattle.sheet.specs.Verdict.{verdict}
@@ -19,14 +19,12 @@ use Rattle.codes.specs.Look.{k_of, code_of, code_verdict}
 use Rattle.codes.specs.Sums.{CodeWord, sum_of}
 use Rattle.generator.specs.Minimal.{Minimal}
 use Rattle.codec.specs.declared.describing.Described.{Described}
-use Rattle.codec.specs.Sizes.{GivesSizes, sizes_checks}
+use Rattle.codec.specs.Sizes.{GivesSizes, sizes_checks, sizes_given}
 use Rattle.codec.specs.Describe.{Describes, describe_checks}
 use Rattle.codec.specs.Encode.{Encodes, encode_checks}
 use Rattle.codec.specs.Edit.{Edits, edit_checks}
-use Rattle.decode.specs.declared.Decoded.{Decoded}
 use Rattle.decode.specs.Decode.{Decodes, Far, decode_checks}
 use Rattle.kept.specs.declared.Kept.{Kept}
-use Rattle.kept.specs.declared.Answer.{Answer}
 use Rattle.kept.specs.Record.{zero_kept}
 use Rattle.kept.specs.Open.{Opens, open_checks}
 use Rattle.splice.specs.Splice.{Splices, splice_checks}
@@ -36,7 +34,6 @@ use Rattle.layout.specs.Frame.{sent_bit, word_of}
 use Rattle.frame.specs.declared.reading.ReadFrame.{ReadFrame}
 use Rattle.frame.specs.Make.{Makes, make_checks}
 use Rattle.frame.specs.Read.{Reads, frame_checks, lead_checks, given_by, zeros}
-use Rattle.book.specs.declared.reading.Looked.{Looked}
 use Rattle.book.specs.declared.reading.Found.{Found}
 use Rattle.book.specs.Book.{IsBook}
 use Rattle.book.specs.Read.{Looks, book_checks, Finds, find_checks, empty_span, span_of, ReadsPart}
@@ -53,7 +50,6 @@ use Rattle.blentovar.specs.Answers.{SizesAs, DescribesAs, EncodesAs, DecodesAs, 
 use Rattle.blentovar.specs.Answers.{LooksAs, ReadsBookAs, WritesBookAs}
 use Rattle.line.specs.Line.{refused_line}
 use Rattle.lister.specs.Listing.{frame_at, Lines, Lists, ListsBook}
-use Rattle.typed.specs.declared.Typed.{Typed}
 use Rattle.typed.specs.Says.{Answers}
 use Rattle.maker.specs.declared.Progress.{Progress}
 use Rattle.maker.specs.Making.{Fills, FillsLast}
@@ -66,24 +62,24 @@ One {A} Allowed = (x y : A) → Allowed x → Allowed y → x ≡ y
 
 -- a refusal is what the checks come to, or they pass and what follows them refuses
 abbrev pub RefusedBy : Outcome → Refusal → Type 0 → Type 0
-RefusedBy checked r Later = (checked ≡ Refused r) ⊎ ((checked ≡ Done) × Later)
+RefusedBy checked r Later = (checked ≡ Err r) ⊎ ((checked ≡ Ok tt) × Later)
 
 -- a code word is within 23 of what came in, and its lead refuses
 abbrev pub NearLead : List ℕ → Refusal → Type 0
-NearLead received r = (word : List ℕ) × CodeWord 8 23 word × (distance received word ≤ 23) × (verdict (lead_checks word) ≡ Refused r)
+NearLead received r = (word : List ℕ) × CodeWord 8 23 word × (distance received word ≤ 23) × (verdict (lead_checks word) ≡ Err r)
 
 -- an outcome is the answer and what every buffer then holds
 pub record OneOutcome : Type 0 where
   pub sizes : (m t : ℕ) → One (GivesSizes m t)
-  pub describe : (m t : ℕ) (lent : List ℕ) → One (λ (o : Described × List ℕ). Describes m t lent o.0 o.1)
+  pub describe : (m t : ℕ) (lent : List ℕ) → One (λ (o : Result Described Refusal × List ℕ). Describes m t lent o.0 o.1)
   pub encode : (m t : ℕ) (message lent : List ℕ) → One (λ (o : Outcome × List ℕ). Encodes m t message lent o.0 o.1)
   pub decode : (m t : ℕ) (received lentWord lentList : List ℕ)
-      → One (λ (o : Decoded × List ℕ × List ℕ). Decodes m t received lentWord lentList o.0 o.1 o.2)
+      → One (λ (o : Result ℕ Refusal × List ℕ × List ℕ). Decodes m t received lentWord lentList o.0 o.1 o.2)
   pub edit : (m t : ℕ) (lent : List ℕ) (start : ℕ) (stretch : List ℕ) → One (λ (o : Outcome × List ℕ). Edits m t lent start stretch o.0 o.1)
   pub opening : (m t : ℕ) (word : List ℕ) → One (Opens m t word)
   pub splice : (stored : Kept) (start : ℕ) (stretch : List ℕ) → One (Splices stored start stretch)
   pub decode_kept : (stored : Kept) (lentWord lentList : List ℕ)
-      → One (λ (o : Decoded × List ℕ × List ℕ). DecodesKept stored lentWord lentList o.0 o.1 o.2)
+      → One (λ (o : Result ℕ Refusal × List ℕ × List ℕ). DecodesKept stored lentWord lentList o.0 o.1 o.2)
   pub make_frame : (reading : Reading) (lent : List ℕ) → One (λ (o : Outcome × List ℕ). Makes reading lent o.0 o.1)
   pub read_frame : (frame : List ℕ) → One (Reads frame)
   pub look_at_book : (book : List ℕ) → One (Looks book)
@@ -92,7 +88,7 @@ pub record OneOutcome : Type 0 where
   pub write_book : (frames lent : List ℕ) → One (λ (o : Outcome × List ℕ). WritesBook frames lent o.0 o.1)
   pub list_frames : (first : ℕ) (bytes lent : List ℕ) → One (λ (o : ℕ × List ℕ). Lists first bytes lent o.1 o.0)
   pub list_book : (book lent : List ℕ) → One (λ (o : ℕ × List ℕ). ListsBook book lent o.1 o.0)
-  pub read_line : (line : List ℕ) → One (λ (o : Typed). Answers line o)
+  pub read_line : (line : List ℕ) → One (λ (o : Option Reading). Answers line o)
 
 -- no call of the library answers the struck number
 pub record NeverStruck : Type 0 where
@@ -153,66 +149,68 @@ pub record NeverBadBit : Type 0 where
 -- The outcome is what the checks come to. Where an operation searches once they have passed, a refusal is that of a check, or it is 6 and there is nothing
 -- to find; of a frame, also what the lead of the code word near it comes to.
 pub record OneCondition : Type 0 where
-  pub sizes : {m t : ℕ} {x : Described} → GivesSizes m t x → x.outcome ≡ code_verdict m t sizes_checks
-  pub describe : {m t : ℕ} {lent left : List ℕ} {x : Described} → Describes m t lent x left → x.outcome ≡ code_verdict m t (describe_checks lent)
+  pub sizes : {m t : ℕ} (x : Result Described Refusal) → GivesSizes m t x → outcome_of x ≡ code_verdict m t sizes_checks
+  pub describe : {m t : ℕ} {lent left : List ℕ} (x : Result Described Refusal) → Describes m t lent x left → outcome_of x ≡ code_verdict m t (describe_checks lent)
   pub encode : {m t : ℕ} {message lent left : List ℕ} {x : Outcome} → Encodes m t message lent x left → x ≡ code_verdict m t (encode_checks message lent)
-  pub decode : {m t : ℕ} {received lentWord lentList word list : List ℕ} {x : Decoded} → Decodes m t received lentWord lentList x word list
-      → (r : Refusal) → (x.outcome ≡ Refused r)
+  pub decode : {m t : ℕ} {received lentWord lentList word list : List ℕ} (x : Result ℕ Refusal) → Decodes m t received lentWord lentList x word list
+      → (r : Refusal) → (outcome_of x ≡ Err r)
       ↔ RefusedBy (code_verdict m t (decode_checks received lentWord lentList)) r ((r ≡ NothingNear) × Far m t t received)
   pub edit : {m t start : ℕ} {lent stretch left : List ℕ} {x : Outcome} → Edits m t lent start stretch x left
       → x ≡ code_verdict m t (edit_checks lent start stretch)
-  pub opening : {m t : ℕ} {word : List ℕ} {x : Answer} → Opens m t word x → x.outcome ≡ code_verdict m t (open_checks word)
-  pub splice : {stored : Kept} {start : ℕ} {stretch : List ℕ} {x : Answer} → Splices stored start stretch x
-      → x.outcome ≡ code_verdict stored.m stored.t (splice_checks stored start stretch)
-  pub decode_kept : {stored : Kept} {lentWord lentList word list : List ℕ} {x : Decoded} → DecodesKept stored lentWord lentList x word list
-      → (r : Refusal) → (x.outcome ≡ Refused r)
+  pub opening : {m t : ℕ} {word : List ℕ} (x : Result Kept Refusal) → Opens m t word x → outcome_of x ≡ code_verdict m t (open_checks word)
+  pub splice : {stored : Kept} {start : ℕ} {stretch : List ℕ} (x : Result Kept Refusal) → Splices stored start stretch x
+      → outcome_of x ≡ code_verdict stored.m stored.t (splice_checks stored start stretch)
+  pub decode_kept : {stored : Kept} {lentWord lentList word list : List ℕ} (x : Result ℕ Refusal) → DecodesKept stored lentWord lentList x word list
+      → (r : Refusal) → (outcome_of x ≡ Err r)
       ↔ RefusedBy (code_verdict stored.m stored.t (decode_kept_checks stored lentWord lentList)) r
       ((r ≡ NothingNear) × NoSet (code_of stored.m stored.t) stored)
   pub make_frame : {reading : Reading} {lent left : List ℕ} {x : Outcome} → Makes reading lent x left → x ≡ verdict (make_checks lent)
-  pub read_frame : (frame : List ℕ) {x : ReadFrame} → Reads frame x → (r : Refusal) → (x.outcome ≡ Refused r)
+  pub read_frame : (frame : List ℕ) (x : Result ReadFrame Refusal) → Reads frame x → (r : Refusal) → (outcome_of x ≡ Err r)
       ↔ RefusedBy (verdict (frame_checks frame)) r (((r ≡ NothingNear) × Far 8 23 23 (word_of frame)) ⊎ NearLead (word_of frame) r)
-  pub look_at_book : (book : List ℕ) {x : Looked} → Looks book x → x.outcome ≡ verdict (book_checks book)
-  pub read_book : (book : List ℕ) (i : ℕ) {x : Found} → Finds book i x → x.outcome ≡ verdict (find_checks book i)
+  pub look_at_book : (book : List ℕ) (x : Result ℕ Refusal) → Looks book x → outcome_of x ≡ verdict (book_checks book)
+  pub read_book : (book : List ℕ) (i : ℕ) (x : Result Found Refusal) → Finds book i x → outcome_of x ≡ verdict (find_checks book i)
   pub write_book : {frames lent left : List ℕ} {x : Outcome} → WritesBook frames lent x left → x ≡ verdict (write_checks frames lent)
 
 -- where it is refused, every number beside the outcome is 0 and every lent buffer is as it was; Open gives a record of zeros, Splice the record it got
 pub record RefusedStays : Type 0 where
-  pub sizes : {m t : ℕ} {x : Described} → GivesSizes m t x → x.outcome ≢ Done → (x.n ≡ 0) × (x.k ≡ 0)
-  pub describe : {m t : ℕ} {lent left : List ℕ} {x : Described} → Describes m t lent x left → x.outcome ≢ Done
-      → (x.n ≡ 0) × (x.k ≡ 0) × (left ≡ lent)
-  pub encode : {m t : ℕ} {message lent left : List ℕ} {x : Outcome} → Encodes m t message lent x left → x ≢ Done → left ≡ lent
-  pub decode : {m t : ℕ} {received lentWord lentList word list : List ℕ} {x : Decoded} → Decodes m t received lentWord lentList x word list
-      → x.outcome ≢ Done → (x.wrong ≡ 0) × (word ≡ lentWord) × (list ≡ lentList)
-  pub edit : {m t start : ℕ} {lent stretch left : List ℕ} {x : Outcome} → Edits m t lent start stretch x left → x ≢ Done → left ≡ lent
-  pub opening : {m t : ℕ} {word : List ℕ} {x : Answer} → Opens m t word x → x.outcome ≢ Done → x.record ≡ zero_kept
-  pub splice : {stored : Kept} {start : ℕ} {stretch : List ℕ} {x : Answer} → Splices stored start stretch x → x.outcome ≢ Done → x.record ≡ stored
-  pub decode_kept : {stored : Kept} {lentWord lentList word list : List ℕ} {x : Decoded} → DecodesKept stored lentWord lentList x word list
-      → x.outcome ≢ Done → (x.wrong ≡ 0) × (word ≡ lentWord) × (list ≡ lentList)
-  pub make_frame : {reading : Reading} {lent left : List ℕ} {x : Outcome} → Makes reading lent x left → x ≢ Done → left ≡ lent
-  pub read_frame : (frame : List ℕ) {x : ReadFrame} → Reads frame x → x.outcome ≢ Done → given_by x ≡ zeros
-  pub look_at_book : (book : List ℕ) {x : Looked} → Looks book x → x.outcome ≢ Done → x.count ≡ 0
-  pub read_book : (book : List ℕ) (i : ℕ) {x : Found} → Finds book i x → x.outcome ≢ Done → span_of x ≡ empty_span
-  pub write_book : {frames lent left : List ℕ} {x : Outcome} → WritesBook frames lent x left → x ≢ Done → left ≡ lent
+  pub sizes : {m t : ℕ} (x : Result Described Refusal) → GivesSizes m t x → outcome_of x ≢ Ok tt → ((sizes_given x).n ≡ 0) × ((sizes_given x).k ≡ 0)
+  pub describe : {m t : ℕ} {lent left : List ℕ} (x : Result Described Refusal) → Describes m t lent x left → outcome_of x ≢ Ok tt
+      → ((sizes_given x).n ≡ 0) × ((sizes_given x).k ≡ 0) × (left ≡ lent)
+  pub encode : {m t : ℕ} {message lent left : List ℕ} {x : Outcome} → Encodes m t message lent x left → x ≢ Ok tt → left ≡ lent
+  pub decode : {m t : ℕ} {received lentWord lentList word list : List ℕ} (x : Result ℕ Refusal) → Decodes m t received lentWord lentList x word list
+      → outcome_of x ≢ Ok tt → (result_unwrap_or x 0 ≡ 0) × (word ≡ lentWord) × (list ≡ lentList)
+  pub edit : {m t start : ℕ} {lent stretch left : List ℕ} {x : Outcome} → Edits m t lent start stretch x left → x ≢ Ok tt → left ≡ lent
+  pub opening : {m t : ℕ} {word : List ℕ} (x : Result Kept Refusal) → Opens m t word x → outcome_of x ≢ Ok tt
+      → result_unwrap_or x zero_kept ≡ zero_kept
+  pub splice : {stored : Kept} {start : ℕ} {stretch : List ℕ} (x : Result Kept Refusal) → Splices stored start stretch x → outcome_of x ≢ Ok tt
+      → result_unwrap_or x stored ≡ stored
+  pub decode_kept : {stored : Kept} {lentWord lentList word list : List ℕ} (x : Result ℕ Refusal) → DecodesKept stored lentWord lentList x word list
+      → outcome_of x ≢ Ok tt → (result_unwrap_or x 0 ≡ 0) × (word ≡ lentWord) × (list ≡ lentList)
+  pub make_frame : {reading : Reading} {lent left : List ℕ} {x : Outcome} → Makes reading lent x left → x ≢ Ok tt → left ≡ lent
+  pub read_frame : (frame : List ℕ) (x : Result ReadFrame Refusal) → Reads frame x → outcome_of x ≢ Ok tt → given_by x ≡ zeros
+  pub look_at_book : (book : List ℕ) (x : Result ℕ Refusal) → Looks book x → outcome_of x ≢ Ok tt → result_unwrap_or x 0 ≡ 0
+  pub read_book : (book : List ℕ) (i : ℕ) (x : Result Found Refusal) → Finds book i x → outcome_of x ≢ Ok tt → span_of x ≡ empty_span
+  pub write_book : {frames lent left : List ℕ} {x : Outcome} → WritesBook frames lent x left → x ≢ Ok tt → left ≡ lent
 
 -- what an output buffer held before is not looked at: two calls that lend other contents of the same length give the same answer,
 -- and where it is done they leave the same
 pub record NeverLookedAt : Type 0 where
-  pub describe : {m t : ℕ} {lent lent' left left' : List ℕ} {x y : Described} → length lent ≡ length lent'
-      → Describes m t lent x left → Describes m t lent' y left' → (x ≡ y) × (x.outcome ≡ Done → left ≡ left')
+  pub describe : {m t : ℕ} {lent lent' left left' : List ℕ} (x y : Result Described Refusal) → length lent ≡ length lent'
+      → Describes m t lent x left → Describes m t lent' y left' → (x ≡ y) × (outcome_of x ≡ Ok tt → left ≡ left')
   pub encode : {m t : ℕ} {message lent lent' left left' : List ℕ} {x y : Outcome} → length lent ≡ length lent'
-      → Encodes m t message lent x left → Encodes m t message lent' y left' → (x ≡ y) × (x ≡ Done → left ≡ left')
-  pub decode : {m t : ℕ} {received lentWord lentList lentWord' lentList' word list word' list' : List ℕ} {x y : Decoded}
+      → Encodes m t message lent x left → Encodes m t message lent' y left' → (x ≡ y) × (x ≡ Ok tt → left ≡ left')
+  pub decode : {m t : ℕ} {received lentWord lentList lentWord' lentList' word list word' list' : List ℕ} (x y : Result ℕ Refusal)
       → length lentWord ≡ length lentWord' → length lentList ≡ length lentList'
       → Decodes m t received lentWord lentList x word list → Decodes m t received lentWord' lentList' y word' list'
-      → (x ≡ y) × (x.outcome ≡ Done → (word ≡ word') × (list ≡ list'))
-  pub decode_kept : {stored : Kept} {lentWord lentList lentWord' lentList' word list word' list' : List ℕ} {x y : Decoded}
+      → (x ≡ y) × (outcome_of x ≡ Ok tt → (word ≡ word') × (list ≡ list'))
+  pub decode_kept : {stored : Kept} {lentWord lentList lentWord' lentList' word list word' list' : List ℕ} (x y : Result ℕ Refusal)
       → length lentWord ≡ length lentWord' → length lentList ≡ length lentList'
       → DecodesKept stored lentWord lentList x word list → DecodesKept stored lentWord' lentList' y word' list'
-      → (x ≡ y) × (x.outcome ≡ Done → (word ≡ word') × (list ≡ list'))
+      → (x ≡ y) × (outcome_of x ≡ Ok tt → (word ≡ word') × (list ≡ list'))
   pub make_frame : {reading : Reading} {lent lent' left left' : List ℕ} {x y : Outcome} → length lent ≡ length lent'
-      → Makes reading lent x left → Makes reading lent' y left' → (x ≡ y) × (x ≡ Done → left ≡ left')
+      → Makes reading lent x left → Makes reading lent' y left' → (x ≡ y) × (x ≡ Ok tt → left ≡ left')
   pub write_book : {frames lent lent' left left' : List ℕ} {x y : Outcome} → length lent ≡ length lent'
-      → WritesBook frames lent x left → WritesBook frames lent' y left' → (x ≡ y) × (x ≡ Done → left ≡ left')
+      → WritesBook frames lent x left → WritesBook frames lent' y left' → (x ≡ y) × (x ≡ Ok tt → left ≡ left')
 
 -- 2. the code
 
@@ -275,14 +273,14 @@ pub record Received (m t : ℕ) (received : List ℕ) (wrong : ℕ) (word list :
 -- the odd ones, and they are zeros.
 pub record PassesAgain (m t : ℕ) (word : List ℕ) : Type 0 where
   pub sums : (j : ℕ) → 1 ≤ j → j ≤ 2 * t → sum_of m j word ≡ 0
-  pub opens : (y : Answer) → Opens m t word y → (y.outcome ≡ Done) × (y.record.sums ≡ replicate 255 0)
+  pub opens : (y : Result Kept Refusal) → Opens m t word y → (outcome_of y ≡ Ok tt) × ((result_unwrap_or y zero_kept).sums ≡ replicate 255 0)
 
 -- 3. what is kept, and what is edited
 
 -- one splice after another, accepted or refused, each with any answer that the promise allows: a start and a stretch for each
 abbrev pub After : Kept → List (ℕ × List ℕ) → Kept → Type 0
 After stored [] after = stored ≡ after
-After stored (s ∷ splices) after = (x : Answer) × Splices stored s.0 s.1 x × After x.record splices after
+After stored (s ∷ splices) after = (x : Result Kept Refusal) × Splices stored s.0 s.1 x × After (result_unwrap_or x stored) splices after
 
 -- the resulting bits of a word and one splice: one that runs past the end or holds more than bits leaves them, another is pasted in
 abbrev pub spliced : List ℕ → ℕ × List ℕ → List ℕ
@@ -314,8 +312,8 @@ pub record OnlyStretch (m t : ℕ) (word : List ℕ) (start end : ℕ) (after : 
 -- the reading frame
 
 -- the answer that gives this reading, with so many wrong places
-abbrev pub read_as : Reading → ℕ → ReadFrame
-read_as reading wrong = record { outcome = Done; reading = reading; wrong = wrong }
+abbrev pub read_as : Reading → ℕ → Result ReadFrame Refusal
+read_as reading wrong = Ok (record { reading = reading; wrong = wrong })
 
 -- A line stuck at a bit, 0 or 1, with up to 23 changed bits: 32 bytes whose word, their 255 sent bits, differs from 255 times that bit in at most 23 places.
 pub record StuckAt (bit : ℕ) (frame : List ℕ) : Type 0 where
@@ -332,10 +330,10 @@ pad_or_lead frame = cond (eqb (sent_bit frame 255) 1) PadBit LeadBits
 -- gives its frame, the very 32 bytes where they lie in the lent book; every other number is 15, with the empty part at the front.
 pub record CarriedHome (frames front book : List ℕ) : Type 0 where
   pub is_book : IsBook (front ++ book) (frame_count frames)
-  pub counted : (x : Looked) → Looks (front ++ book) x → (x.outcome ≡ Done) × (x.count ≡ frame_count frames)
-  pub found : (i : ℕ) (x : Found) → Finds (front ++ book) i x → i < frame_count frames
-      → (x.outcome ≡ Done) × (x.from ≡ length front + 32 * i) × (x.to ≡ length front + 32 * i + 32)
-  pub none : (i : ℕ) (x : Found) → Finds (front ++ book) i x → frame_count frames ≤ i → (x.outcome ≡ Refused NoSuchFrame) × (span_of x ≡ empty_span)
+  pub counted : (x : Result ℕ Refusal) → Looks (front ++ book) x → (outcome_of x ≡ Ok tt) × (result_unwrap_or x 0 ≡ frame_count frames)
+  pub found : (i : ℕ) (x : Result Found Refusal) → Finds (front ++ book) i x → i < frame_count frames
+      → (outcome_of x ≡ Ok tt) × ((span_of x).from ≡ length front + 32 * i) × ((span_of x).to ≡ length front + 32 * i + 32)
+  pub none : (i : ℕ) (x : Result Found Refusal) → Finds (front ++ book) i x → frame_count frames ≤ i → (outcome_of x ≡ Err NoSuchFrame) × (span_of x ≡ empty_span)
   pub frame : (lent r : Bor (List ℕ)) (i : ℕ) → lent.now ≡ front ++ book → ReadsPart lent i r → i < frame_count frames
       → (r.now ≡ frame_at frames i) × (r.ref_ptr ≡ (lent.ref_ptr.0, length front + 32 * i + lent.ref_ptr.1))
   pub empty : (lent r : Bor (List ℕ)) (i : ℕ) → lent.now ≡ front ++ book → ReadsPart lent i r → frame_count frames ≤ i

@@ -3,10 +3,10 @@
 #![tactic(auto)]
 
 ghost use Rattle.std.specs.Prelude.{◌≤◌};
-ghost use Rattle.codes.specs.Work.{Known};
 
 mod describing;
 mod keeping;
+mod listed;
 mod made_up;
 mod mending;
 mod room;
@@ -15,39 +15,34 @@ mod text;
 mod trials;
 mod words;
 
-use codes::{Code, Look};
 use input::STDOUT_FILENO;
+use listed::Listed;
 use text::print_number;
 
-fn print_code(code: Code)
-    requires { Known code }
-{
-    describing::print_described(code);
-    trials::print_decoded(code);
-    trials::print_kept(code);
+fn print_code(listed: Listed) {
+    describing::print_described(listed);
+    trials::print_decoded(listed);
+    trials::print_kept(listed);
 }
 
 // Writes the lines of (m, t) if it is a listed code. Gives 1 if it is, and 0 if not.
 fn print_if_listed(m: usize, t: usize) -> usize
     ensures { result ≤ 1 }
 {
-    let look = codes::look_up(m, t);
-    match look {
-        Look::Passes(code) => {
-            print_code(code);
+    match codes::look_up(m, t) {
+        Ok(code) => {
+            print_code(Listed { code });
             1
         }
-        Look::Refused(_) => 0,
+        Err(_) => 0,
     }
 }
 
 // Every m from 3 to 10 with every t from 0 to 256: 8 times 257 pairs.
 fn print_all() -> usize {
     let mut listed = 0;
-    let mut pair = 0;
-    while pair < 2056 {
+    for pair in 0..2056 {
         listed += print_if_listed(3 + pair / 257, pair % 257);
-        pair += 1;
     }
     listed
 }

@@ -1,20 +1,7 @@
-// Room to lend, filled with a value that no operation writes, so that every place that was written shows.
+// What room is filled with before it is lent: no operation writes it, so that every place that was written shows.
 
-ghost use Rattle.std.specs.Prelude.{◌≤◌};
-ghost use Rattle.io.specs.Counts.{IsPrefixLen};
+// No bit.
+pub(crate) const NO_BIT: u8 = 170;
 
-// Room for a word of n places; 170 is no bit.
-pub(crate) fn for_word(n: usize) -> [u8; 1024]
-    requires { n ≤ 1024 }
-    ensures { IsPrefixLen n result }
-{
-    [170; 1024]
-}
-
-// Room for a list of t places; 43690 is no place.
-pub(crate) fn for_list(t: usize) -> [u16; 256]
-    requires { t ≤ 256 }
-    ensures { IsPrefixLen t result }
-{
-    [43690; 256]
-}
+// No place.
+pub(crate) const NO_PLACE: u16 = 43690;

@@ -1,11 +1,9 @@
 // What a line says of many answers. The sum depends on every answer and on every place of every buffer after it.
 
 ghost use Rattle.std.specs.Prelude.{◌≤◌, length};
-ghost use Rattle.codes.specs.Work.{Known};
 
-use codes::Code;
-use decode::Decoded;
-use sheet::Outcome;
+use crate::listed::Listed;
+use sheet::Refusal;
 
 // `state` is the state of the generator of made-up numbers.
 #[derive(Clone, Copy)]
@@ -18,10 +16,8 @@ pub(crate) struct Tally {
 }
 
 // Every code has words of its own.
-pub(crate) fn nothing_yet(code: Code) -> Tally
-    requires { Known code }
-{
-    let start = code.m * 1000 + code.t;
+pub(crate) fn nothing_yet(listed: Listed) -> Tally {
+    let start = listed.code.m * 1000 + listed.code.t;
     Tally {
         state: start as u64,
         mended: 0,
@@ -37,32 +33,21 @@ fn with_number(mut tally: Tally, number: u64) -> Tally {
 }
 
 // The number, the buffer and the place.
-pub(crate) fn with_outcome(tally: Tally, outcome: Outcome) -> Tally {
-    let told = sheet::tell_outcome(outcome);
+pub(crate) fn with_outcome<T>(tally: Tally, answer: &Result<T, Refusal>) -> Tally {
+    let told = sheet::tell_outcome(answer);
     let numbered = with_number(tally, told.number as u64);
     let buffered = with_number(numbered, told.buffer as u64);
     with_number(buffered, told.place as u64)
 }
 
-pub(crate) fn with_word(tally: Tally, word: &[u8]) -> Tally {
-    let mut mixed = tally;
-    let mut i = 0;
-    while i < word.len() {
-        mixed = with_number(mixed, word[i] as u64);
-        i += 1;
-    }
-    mixed
-}
-
-// Mixes in the first `count` entries.
-pub(crate) fn with_list(tally: Tally, count: usize, list: &[u16]) -> Tally
-    requires { count ≤ length list.now }
+// The bits of a word, or the entries of a list.
+pub(crate) fn with_all<T: Copy>(tally: Tally, numbers: &[T]) -> Tally
+where
+    u64: From<T>,
 {
     let mut mixed = tally;
-    let mut i = 0;
-    while i < count {
-        mixed = with_number(mixed, list[i] as u64);
-        i += 1;
+    for number in numbers {
+        mixed = with_number(mixed, u64::from(*number));
     }
     mixed
 }
@@ -72,21 +57,21 @@ fn plus(x: u64, y: u64) -> u64 {
     (x % 1000000 + y % 1000000) % 1000000
 }
 
-fn with_answer(mut tally: Tally, answer: Decoded) -> Tally {
-    let outcome = answer.outcome;
-    let wrong = answer.wrong as u64;
+fn with_answer(mut tally: Tally, answer: Result<usize, Refusal>) -> Tally {
+    let wrong = answer.unwrap_or(0) as u64;
     tally.wrong = plus(tally.wrong, wrong);
-    match outcome {
-        Outcome::Done => tally.mended = plus(tally.mended, 1),
-        Outcome::Refused(_) => tally.refused = plus(tally.refused, 1),
+    match answer {
+        Ok(_) => tally.mended = plus(tally.mended, 1),
+        Err(_) => tally.refused = plus(tally.refused, 1),
     }
-    with_number(with_outcome(tally, outcome), wrong)
+    with_number(with_outcome(tally, &answer), wrong)
 }
 
-pub(crate) fn with_decoded(tally: Tally, answer: Decoded, word: &[u8], list: &[u16]) -> Tally {
-    with_list(
-        with_word(with_answer(tally, answer), word),
-        list.len(),
-        list,
-    )
+pub(crate) fn with_decoded(
+    tally: Tally,
+    answer: Result<usize, Refusal>,
+    word: &[u8],
+    list: &[u16],
+) -> Tally {
+    with_all(with_all(with_answer(tally, answer), word), list)
 }

@@ -18,10 +18,8 @@ fn digit(bit: u8) -> u8 {
 }
 
 fn make_digits(bits: &mut [u8]) {
-    let mut i = 0;
-    while i < bits.len() {
-        bits[i] = digit(bits[i]);
-        i += 1;
+    for bit in bits.iter_mut() {
+        *bit = digit(*bit);
     }
 }
 

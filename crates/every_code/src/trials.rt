@@ -1,12 +1,12 @@
 // What is done with a code again and again, and the lines on what came of it.
 
 ghost use Rattle.std.specs.Prelude.{◌≡◌, ◌≤◌, length};
-ghost use Rattle.codes.specs.Work.{Known};
 
+use crate::listed::Listed;
+use crate::room::NO_BIT;
 use crate::tally::Tally;
 use crate::text::print_number;
-use crate::{keeping, mending, room, tally, words};
-use codes::Code;
+use crate::{keeping, mending, tally, words};
 use input::STDOUT_FILENO;
 
 #[derive(Clone, Copy)]
@@ -21,43 +21,41 @@ enum Trial {
 
 fn turn_with(
     trial: Trial,
-    code: Code,
+    listed: Listed,
     number: usize,
     message: &mut [u8],
     sent: &mut [u8],
     word: &mut [u8],
     tally: Tally,
 ) -> Tally
-    requires { Known code × (length sent.old ≡ length word.old) × (code.n ≡ length word.old) }
+    requires { (length sent.old ≡ length word.old) × (listed.code.n ≡ length word.old) }
 {
     match trial {
         Trial::EachWord => {
             words::fill_bits(number, word);
-            mending::decode(code, word, tally)
+            mending::decode(listed, word, tally)
         }
         Trial::Mending => {
-            let after = words::send(code, message, sent, tally);
-            mending::decode_round(code, sent, word, after)
+            let after = words::send(listed, message, sent, tally);
+            mending::decode_round(listed, sent, word, after)
         }
         Trial::Keeping => {
-            let after = words::send(code, message, word, tally);
-            keeping::keep_round(code, word, after)
+            let after = words::send(listed, message, word, tally);
+            keeping::keep_round(listed, word, after)
         }
     }
 }
 
 // One turn, with room for a message, the word that carries it, and a word that is changed.
-fn turn(trial: Trial, code: Code, number: usize, tally: Tally) -> Tally
-    requires { Known code }
-{
-    let n = code.n;
-    let k = code.k;
-    let mut message = room::for_word(k);
-    let mut sent = room::for_word(n);
-    let mut word = room::for_word(n);
+fn turn(trial: Trial, listed: Listed, number: usize, tally: Tally) -> Tally {
+    let n = listed.code.n;
+    let k = listed.code.k;
+    let mut message = [NO_BIT; 1024];
+    let mut sent = [NO_BIT; 1024];
+    let mut word = [NO_BIT; 1024];
     turn_with(
         trial,
-        code,
+        listed,
         number,
         &mut message[..k],
         &mut sent[..n],
@@ -67,23 +65,21 @@ fn turn(trial: Trial, code: Code, number: usize, tally: Tally) -> Tally
 }
 
 // So many turns, numbered from the first on.
-fn turns(trial: Trial, code: Code, first: usize, count: usize) -> Tally
-    requires { Known code × (first ≤ 32768) × (count ≤ 256) }
+fn turns(trial: Trial, listed: Listed, first: usize, count: usize) -> Tally
+    requires { (first ≤ 32768) × (count ≤ 256) }
 {
-    let mut tally = tally::nothing_yet(code);
-    let mut i = 0;
-    while i < count {
-        tally = turn(trial, code, first + i, tally);
-        i += 1;
+    let mut tally = tally::nothing_yet(listed);
+    for number in first..first + count {
+        tally = turn(trial, listed, number, tally);
     }
     tally
 }
 
 // The name, m, t, the number, how many were refused, the number of wrong places and the sum.
-fn print_line(name: &[u8], code: Code, number: u64, tally: Tally) {
+fn print_line(name: &[u8], listed: Listed, number: u64, tally: Tally) {
     io::write_all(STDOUT_FILENO, name);
-    print_number(code.m as u64);
-    print_number(code.t as u64);
+    print_number(listed.code.m as u64);
+    print_number(listed.code.t as u64);
     print_number(number);
     print_number(tally.refused);
     print_number(tally.wrong);
@@ -92,39 +88,33 @@ fn print_line(name: &[u8], code: Code, number: u64, tally: Tally) {
 }
 
 // Decodes the words with the numbers below `end` in blocks of `size`. Each block has a line, and the number in it is that of the block's first word.
-fn print_blocks(code: Code, size: usize, end: usize)
-    requires { Known code × (1 ≤ size) × (size ≤ 256) × (end ≤ 32768) }
+fn print_blocks(listed: Listed, size: usize, end: usize)
+    requires { (1 ≤ size) × (size ≤ 256) × (end ≤ 32768) }
 {
-    let mut first = 0;
-    while first < end {
-        let tally = turns(Trial::EachWord, code, first, size);
-        print_line(b"block", code, first as u64, tally);
-        first += size;
+    for first in (0..end).step_by(size) {
+        let tally = turns(Trial::EachWord, listed, first, size);
+        print_line(b"block", listed, first as u64, tally);
     }
 }
 
 // The line of `count` turns. The number in it is how many words were mended.
-fn print_rounds(name: &[u8], trial: Trial, code: Code, count: usize)
-    requires { Known code × (count ≤ 256) }
+fn print_rounds(name: &[u8], trial: Trial, listed: Listed, count: usize)
+    requires { count ≤ 256 }
 {
-    let tally = turns(trial, code, 0, count);
-    print_line(name, code, tally.mended, tally);
+    let tally = turns(trial, listed, 0, count);
+    print_line(name, listed, tally.mended, tally);
 }
 
 // Every word of m 3 and m 4, and 1,000 words of every other code.
-pub(crate) fn print_decoded(code: Code)
-    requires { Known code }
-{
-    let m = code.m;
+pub(crate) fn print_decoded(listed: Listed) {
+    let m = listed.code.m;
     match m {
-        3 => print_blocks(code, 128, 128),
-        4 => print_blocks(code, 256, 32768),
-        _ => print_rounds(b"code", Trial::Mending, code, 100),
+        3 => print_blocks(listed, 128, 128),
+        4 => print_blocks(listed, 256, 32768),
+        _ => print_rounds(b"code", Trial::Mending, listed, 100),
     }
 }
 
-pub(crate) fn print_kept(code: Code)
-    requires { Known code }
-{
-    print_rounds(b"keep", Trial::Keeping, code, 20);
+pub(crate) fn print_kept(listed: Listed) {
+    print_rounds(b"keep", Trial::Keeping, listed, 20);
 }

@@ -22,7 +22,7 @@ one_shifted {m} l = let s = sizes l in rw (one-mul (2 ^ m), mod-eq_of_lt {n = 2 
 pub over_lt : (m : ℕ) {x : ℕ} → x < 2 ^ m → 2 * x / 2 ^ m < 2
 over_lt m h = (div-lt_iff_lt-mul (pow_pos m)).1 (mul-lt-mul_of_pos_left h (zero-lt-suc 1))
 
--- the room that powers_space and logs_space give is enough for every m
+-- room for 2,046 powers and 1,024 logarithms is enough for every m
 pub powers_room : {m : ℕ} → IsField m → {d : ℕ} → 2046 ≡ d → 2 * n_of m ≤ d
 powers_room l e = let s = sizes l in omega arith
 

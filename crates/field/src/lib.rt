@@ -32,24 +32,10 @@ pub fn times_a(m: usize, p: u16, x: u16) -> u16
 {
     let twice = 2 * x;
     let n = n_of(m);
-    if twice as usize > n {
+    if usize::from(twice) > n {
         return twice ^ p;
     }
     twice
-}
-
-// Room for the powers of every m, to be filled by fill_powers.
-pub fn powers_space() -> [u16; 2046]
-    ensures { 2046 ≡ length result }
-{
-    [0; 2046]
-}
-
-// Room for the logarithms of every m, to be filled by fill_logs.
-pub fn logs_space() -> [u16; 1024]
-    ensures { 1024 ≡ length result }
-{
-    [0; 1024]
 }
 
 // Fills the places 0 to 2n - 1 with the powers of a. Since a^n is 1, each power stands at two places.
@@ -60,12 +46,10 @@ pub fn fill_powers(m: usize, powers: &mut [u16])
     let p = polynomial(m);
     let n = n_of(m);
     let mut x = 1;
-    let mut i = 0;
-    while i < n {
+    for i in 0..n {
         powers[i] = x;
         powers[n + i] = x;
         x = times_a(m, p, x);
-        i += 1;
     }
 }
 
@@ -74,11 +58,8 @@ pub fn fill_logs(m: usize, powers: &[u16], logs: &mut [u16])
     ensures { Tables m powers.now logs.new }
 {
     let n = n_of(m);
-    let mut i = 0;
-    while i < n {
-        let x = powers[i] as usize;
-        logs[x] = i as u16;
-        i += 1;
+    for (i, x) in powers[..n].iter().enumerate() {
+        logs[usize::from(*x)] = i as u16;
     }
 }
 
@@ -93,8 +74,8 @@ pub fn product(m: usize, powers: &[u16], logs: &[u16], x: u16, y: u16) -> u16
     if y == 0 {
         return 0;
     }
-    let log_x = logs[x as usize] as usize;
-    let log_y = logs[y as usize] as usize;
+    let log_x = usize::from(logs[usize::from(x)]);
+    let log_y = usize::from(logs[usize::from(y)]);
     powers[log_x + log_y]
 }
 

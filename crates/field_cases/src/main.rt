@@ -10,7 +10,7 @@ use input::STDOUT_FILENO;
 
 fn print(x: u16) {
     io::write_all(STDOUT_FILENO, b" ");
-    io::print_decimal(STDOUT_FILENO, x as u64);
+    io::print_decimal(STDOUT_FILENO, u64::from(x));
 }
 
 fn end_line() {
@@ -23,9 +23,7 @@ fn value(m: usize, powers: &[u16], logs: &[u16], p: u16, x: u16) -> u16
     ensures { result < 2 ^ m }
 {
     let mut sum = 0;
-    let mut i: usize = 16;
-    while 0 < i {
-        i -= 1;
+    for i in (0..16usize).rev() {
         sum = field::product(m, powers, logs, sum, x) ^ (p >> i) % 2;
     }
     sum
@@ -36,10 +34,8 @@ fn powers_line(powers: &[u16], logs: &[u16])
     requires { Tables 4 powers.now logs.now }
 {
     io::write_all(STDOUT_FILENO, b"powers");
-    let mut i = 0;
-    while i < 16 {
+    for i in 0..16 {
         print(field::power(4, powers, logs, 2, i));
-        i += 1;
     }
     end_line();
 }
@@ -70,8 +66,8 @@ fn sums_line(powers: &[u16], logs: &[u16])
 }
 
 fn gf16() {
-    let mut powers = field::powers_space();
-    let mut logs = field::logs_space();
+    let mut powers = [0; 2046];
+    let mut logs = [0; 1024];
     field::fill_powers(4, &mut powers);
     field::fill_logs(4, &powers, &mut logs);
     powers_line(&powers, &logs);
@@ -99,8 +95,8 @@ fn values_line(m: usize, powers: &[u16], logs: &[u16])
 fn field_line(m: usize)
     requires { IsField m }
 {
-    let mut powers = field::powers_space();
-    let mut logs = field::logs_space();
+    let mut powers = [0; 2046];
+    let mut logs = [0; 1024];
     field::fill_powers(m, &mut powers);
     field::fill_logs(m, &powers, &mut logs);
     values_line(m, &powers, &logs);
@@ -108,9 +104,7 @@ fn field_line(m: usize)
 
 fn main() {
     gf16();
-    let mut m = 3;
-    while m < 11 {
+    for m in 3..=10 {
         field_line(m);
-        m += 1;
     }
 }

@@ -4,7 +4,7 @@ use mathlib.Core.List.{List}
 use Prim.Native.Nat.{ℕ}
 use native.Mathlib.Omega.{arith}
 use lib.ListN.{length}
-use Rattle.sheet.specs.declared.Outcome.TheVariants.{Done}
+use Rattle.std.specs.Prelude.{Ok}
 use Rattle.sheet.proofs.VerdictLaws.{equal}
 use Rattle.bits.specs.Bits.{AreBits}
 use Rattle.bits.proofs.BitLaws.{not_bad}
@@ -33,11 +33,11 @@ known = found_known listed.of_m.listed (listed_found listed)
 pub is_99 : k_of 8 23 ≡ 99
 is_99 = listed_k listed
 
-pub encode_passes : (message lent : List ℕ) → AreBits message → length message ≡ 99 → length lent ≡ 255 → code_verdict 8 23 (encode_checks message lent) ≡ Done
+pub encode_passes : (message lent : List ℕ) → AreBits message → length message ≡ 99 → length lent ≡ 255 → code_verdict 8 23 (encode_checks message lent) ≡ Ok tt
 encode_passes message lent b l k =
     code_passes known (encode_checks message lent (code_of 8 23)) (equal (l ∙ sym is_99), (equal k, (not_bad b, tt)))
 
 pub decode_passes : (received word list : List ℕ) → AreBits received → length received ≡ 255 → length word ≡ 255 → length list ≡ 23
-    → code_verdict 8 23 (decode_checks received word list) ≡ Done
+    → code_verdict 8 23 (decode_checks received word list) ≡ Ok tt
 decode_passes received word list b l k m =
     code_passes known (decode_checks received word list (code_of 8 23)) (equal l, (equal k, (equal m, (not_bad b, tt))))

@@ -1,7 +1,7 @@
 -- Making a frame. docs/SCOPE.md 4.11: "A frame made is the exact encoding of its reading". 5.2: its check is 9.
 use Rattle.std.specs.Prelude.{◌≡◌, not, List, [], ◌∷◌, ℕ, ◌<◌, eqb, length, get_or}
 use Rattle.sheet.specs.declared.Refusal.TheVariants.{FrameLength}
-use Rattle.sheet.specs.declared.Outcome.{Outcome}
+use Rattle.sheet.specs.Number.{Outcome}
 use Rattle.sheet.specs.Verdict.{Check, ◌⇒◌, Promise, Always}
 use Rattle.codes.specs.Encoding.{Encoding}
 use Rattle.layout.specs.declared.message.Reading.{Reading}

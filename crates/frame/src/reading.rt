@@ -1,86 +1,55 @@
 // Reading a frame: the reading that was sent, and the number of wrong places.
 
-ghost use Rattle.std.specs.Prelude.{◌≡◌, length, replicate};
-ghost use Rattle.sheet.specs.declared.Outcome.TheVariants.{Refused};
+ghost use Rattle.std.specs.Prelude.{◌≡◌, length};
+ghost use Rattle.sheet.specs.Number.{outcome_of};
 ghost use Rattle.bits.specs.Bits.{AreBits};
 ghost use Rattle.layout.specs.Frame.{word_of};
-ghost use Rattle.frame.specs.Read.{Reads, ReadsWord, ReadsReceived, given_by, zeros};
+ghost use Rattle.frame.specs.Read.{Reads, ReadsWord, ReadsReceived, given_by};
 
 use layout::{Reading, Sent};
-use sheet::{Outcome, Refusal};
+use sheet::Refusal;
 
-// A refusal has zeros beside it.
+// A reading, and the number of wrong places that its frame had.
 #[derive(Clone, Copy)]
 pub struct ReadFrame {
-    pub outcome: Outcome,
     pub reading: Reading,
     pub wrong: usize,
 }
 
-pub fn read(frame: &[u8]) -> ReadFrame
+pub fn read(frame: &[u8]) -> Result<ReadFrame, Refusal>
     ensures { Reads frame.now result }
 {
     if frame.len() != 32 {
-        return refused(Refusal::FrameLength);
+        return Err(Refusal::FrameLength);
     }
     let pad = layout::sent_bit(frame, Sent { number: 255 });
     if pad != 0 {
-        return refused(Refusal::PadBit);
+        return Err(Refusal::PadBit);
     }
     read_received(frame)
 }
 
-fn refused(r: Refusal) -> ReadFrame
-    ensures { (result.outcome ≡ Refused r) × (given_by result ≡ zeros) }
-{
-    let reading = Reading {
-        house: 0,
-        poll: 0,
-        counter: 0,
-    };
-    ReadFrame {
-        outcome: Outcome::Refused(r),
-        reading,
-        wrong: 0,
-    }
-}
-
 // Past the checks: the code word near the frame's word, and what it says.
-fn read_received(frame: &[u8]) -> ReadFrame
+fn read_received(frame: &[u8]) -> Result<ReadFrame, Refusal>
     requires { length frame.now ≡ 32 }
-    ensures { ReadsReceived (word_of frame.now) result.outcome (given_by result) }
+    ensures { ReadsReceived (word_of frame.now) (outcome_of result) (given_by result) }
 {
-    let mut received = layout::word_space();
-    let mut word = layout::word_space();
-    let mut list = list_space();
+    let mut received = [0; 255];
+    let mut word = [0; 255];
+    let mut list = [0; 23];
     layout::unpack(frame, &mut received);
-    let answer = decode::decode(8, 23, &received, &mut word, &mut list);
-    let outcome = answer.outcome;
-    match outcome {
-        Outcome::Done => read_word(&word, answer.wrong),
-        Outcome::Refused(r) => refused(r),
-    }
-}
-
-fn list_space() -> [u16; 23]
-    ensures { result ≡ replicate 23 0 }
-{
-    [0; 23]
+    let wrong = decode::decode(8, 23, &received, &mut word, &mut list)?;
+    read_word(&word, wrong)
 }
 
 // What a mended word says. `wrong` is the number of wrong places that it had.
-fn read_word(word: &[u8], wrong: usize) -> ReadFrame
+fn read_word(word: &[u8], wrong: usize) -> Result<ReadFrame, Refusal>
     requires { AreBits word.now × (length word.now ≡ 255) }
-    ensures { ReadsWord word.now wrong result.outcome (given_by result) }
+    ensures { ReadsWord word.now wrong (outcome_of result) (given_by result) }
 {
-    let lead_is_wrong = layout::lead_is_wrong(word);
-    if lead_is_wrong {
-        return refused(Refusal::LeadBits);
+    if layout::lead_is_wrong(word) {
+        return Err(Refusal::LeadBits);
     }
     let reading = layout::reading_of(word);
-    ReadFrame {
-        outcome: Outcome::Done,
-        reading,
-        wrong,
-    }
+    Ok(ReadFrame { reading, wrong })
 }

@@ -47,18 +47,18 @@ pub record Down (d : ℕ) (g first word : List ℕ) (i : ℕ) : Type 0 where
   pub left : (h : ℕ) → i ≤ h → get_or word h 0 ≡ 0
   pub sums : {m : ℕ} → IsField m → (j : ℕ) → sum_of m j g ≡ 0 → sum_of m j word ≡ sum_of m j first
 
-pub down : {d i : ℕ} {g first word after : List ℕ} → Down d g first word (i + 1) → TakenAway d g i word after
-    → length after ≡ length word → Down d g first after i
-down {i = i} {after = after} s t l =
+pub down : {d i : ℕ} {g first word after : List ℕ} → Down d g first word i → 0 < i → TakenAway d g (i - 1) word after
+    → length after ≡ length word → Down d g first after (i - 1)
+down {i = i} {after = after} s p t l =
     record {
       bits = t.bits;
       same = l ∙ s.same;
-      left = λ h k. at h k (ℕ_discrete h i);
+      left = λ h k. at h k (ℕ_discrete h (i - 1));
       sums = λ L j z. t.sums L j z ∙ s.sums L j z;
     }
   where
-    at : (h : ℕ) → i ≤ h → Dec (h ≡ i) → get_or after h 0 ≡ 0
-    at h k (yes e) = ap (λ (p : ℕ). get_or after p 0) e ∙ t.here
+    at : (h : ℕ) → i - 1 ≤ h → Dec (h ≡ i - 1) → get_or after h 0 ≡ 0
+    at h k (yes e) = ap (λ (q : ℕ). get_or after q 0) e ∙ t.here
     at h k (no n) = t.above h (omega arith) ∙ s.left h (omega arith)
 
 pub reduced : {d i : ℕ} {g first word : List ℕ} → Down d g first word i → i ≤ d → Reduced d g first word

@@ -2,7 +2,6 @@
 use mathlib.Core.Path.{◌≡◌, ◌∙◌, refl, sym, ap, ap₂, subst}
 use mathlib.Core.List.{List}
 use Prim.Native.Nat.{ℕ, zero, suc, ◌+◌, ◌-◌, ◌≤◌, ◌<◌}
-use native.Mathlib.Nat.{add-sub_of_le}
 use native.Mathlib.Numerals.{add-one}
 use native.Mathlib.Omega.{arith}
 use lib.ListN.{length, get_or, set, take, replicate, length-set, length-replicate}
@@ -40,35 +39,25 @@ product-suc : (r c : ℕ) → product_of r (suc c) ≡ product_bits (binary 11 (
 unfolding product_of minimal_of
 product-suc r c = refl
 
-pub cut_start : (from n : ℕ) (g : List ℕ) → Cut (replicate 1 1) n g → Cut (product_of from (from - from)) n g
+pub cut_start : (from n : ℕ) (g : List ℕ) → Cut (replicate 1 1) n g → Cut (product_of from 0) n g
 cut_start from n g s =
     record {
       bits = s.bits;
       same = s.same;
-      holds = λ i h. s.holds i h ∙ ap (λ (l : List ℕ). get_or l i 0) (sym (product-zero from) ∙ ap (product_of from) none);
+      holds = λ i h. s.holds i h ∙ ap (λ (l : List ℕ). get_or l i 0) (sym (product-zero from));
     }
+
+pub cut_next : (from k : ℕ) {n x : ℕ} {g after : List ℕ} → x ≡ get_or minimals (from + k) 0 → Cut (product_of from k) n g
+    → Multiplied x g after → length after ≡ length g
+    → Cut (product_of from (k + 1)) n after
+cut_next from k {n} {x} {g} {after} e s t l = record { bits = t.bits; same = l ∙ s.same; holds = more }
   where
-    none : 0 ≡ from - from
-    none = omega arith
-
-pub cut_next : {from r n : ℕ} {table g after : List ℕ} → table ≡ minimals → from ≤ r → Cut (product_of from (r - from)) n g
-    → Multiplied (get_or table r 0) g after → length after ≡ length g
-    → Cut (product_of from (r + 1 - from)) n after
-cut_next {from} {r} {n} {table} {g} {after} e h s t l = record { bits = t.bits; same = l ∙ s.same; holds = more }
-  where
-    places : from + (r - from) ≡ r
-    places = add-sub_of_le h
-
-    count : suc (r - from) ≡ r + 1 - from
-    count = omega arith
-
-    more : (i : ℕ) → i < n → get_or after i 0 ≡ get_or (product_of from (r + 1 - from)) i 0
-    more i k =
+    more : (i : ℕ) → i < n → get_or after i 0 ≡ get_or (product_of from (k + 1)) i 0
+    more i h =
         t.holds i (omega (arith, s.same))
-        ∙ ap (λ (q : List ℕ). get_or (product_bits (binary 11 (get_or q r 0)) g) i 0) e
-        ∙ product_local (binary 11 (get_or minimals r 0)) g (product_of from (r - from)) i (λ j b. s.holds j (omega arith))
-        ∙ ap (λ (q : ℕ). get_or (product_bits (binary 11 (get_or minimals q 0)) (product_of from (r - from))) i 0) (sym places)
-        ∙ ap (λ (q : List ℕ). get_or q i 0) (sym (product-suc from (r - from)) ∙ ap (product_of from) count)
+        ∙ ap (λ (q : ℕ). get_or (product_bits (binary 11 q) g) i 0) e
+        ∙ product_local (binary 11 (get_or minimals (from + k) 0)) g (product_of from k) i (λ j b. s.holds j (omega arith))
+        ∙ ap (λ (q : List ℕ). get_or q i 0) (sym (product-suc from k) ∙ ap (product_of from) (sym (add-one k)))
 
 -- a buffer that is no longer than the product holds the product's first places
 pub cut_whole : {p buffer : List ℕ} {n : ℕ} → Cut p n buffer → n ≤ length p → buffer ≡ take n p

@@ -34,10 +34,8 @@ fn add_taps(g: &mut [u8], old: &[u8], p: u16)
     requires { (g.old ≡ replicate (length old.now) 0) × AreBits old.now }
     ensures { Multiplied p old.now g.new }
 {
-    let mut e = 0;
-    while e < 11 {
+    for e in 0..11 {
         add_tap(g, old, e, p);
-        e += 1;
     }
 }
 
@@ -47,7 +45,7 @@ fn multiply(g: &mut [u8], p: u16)
     ensures { Multiplied p g.old g.new }
 {
     let n = g.len();
-    let mut space = bits::word_space();
+    let mut space = [0; 1024];
     bits::copy_at(&mut space, 0, g);
     bits::clear(g);
     add_taps(g, &space[..n], p);
@@ -67,10 +65,8 @@ fn multiply_rows(g: &mut [u8], minimals: &[u16], from: usize, to: usize)
     requires { Cut (replicate 1 1) (length g.old) g.old × (length g.old ≤ 1024) × (minimals.now ≡ Table·minimals) × (from ≤ to) × (to ≤ 232) }
     ensures { Cut (product_of from (to - from)) (length g.old) g.new }
 {
-    let mut r = from;
-    while r < to {
-        multiply(g, minimals[r]);
-        r += 1;
+    for minimal in &minimals[from..to] {
+        multiply(g, *minimal);
     }
 }
 
@@ -90,7 +86,7 @@ pub fn generator(m: usize, row: usize, d: usize) -> [u8; 1024]
     requires { RowOf m row × (d ≡ n_of m - get_or ks row 0) }
     ensures { Generator m (get_or Table·ts row 0) d (take (d + 1) result) × (1024 ≡ length result) }
 {
-    let mut space = bits::word_space();
+    let mut space = [0; 1024];
     let end = d + 1;
     fill_generator(m, row, &mut space[..end]);
     space
@@ -111,9 +107,7 @@ pub fn reduce(word: &mut [u8], g: &[u8], d: usize)
     requires { AreBits word.old × AreBits g.now × (length g.now ≡ d + 1) × (get_or g.now d 0 ≡ 1) }
     ensures { Reduced d g.now word.old word.new }
 {
-    let mut i = word.len();
-    while d < i {
-        i -= 1;
+    for i in (d..word.len()).rev() {
         take_away(word, g, d, i);
     }
 }

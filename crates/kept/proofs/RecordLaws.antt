@@ -1,20 +1,19 @@
--- Check 7: looking at the sums one after the other, and what a record that passes holds.
+-- Check 7: looking at the sums, and what a record that passes holds.
 use mathlib.Core.Path.{◌≡◌, ◌∙◌, refl, sym, ap, ap₂}
 use mathlib.Core.Bool.{Bool, true, false, ◌||◌, true≢false}
 use mathlib.Core.List.{List, [], ◌∷◌}
-use Prim.Native.Nat.{ℕ, zero, suc, ◌+◌, ◌^◌, ◌≤◌, ◌<◌}
+use Prim.Native.Nat.{ℕ, zero, suc, ◌^◌, ◌≤◌, ◌<◌}
 use native.Mathlib.Decide.{dec_le, dec_lt}
-use native.Mathlib.Numerals.{add-one}
 use native.Mathlib.Omega.{arith}
 use borrow.Author.Tests.{le-leb, lt-leb}
-use lib.ListN.{length, get_or, take, drop, drop_of_length-le, length-take, get_or-eq_default}
+use lib.Dec.{leb}
+use lib.ListN.{get_or, take, length-take, get_or-eq_default}
 use lib.Pow.{pow_pos}
-use lib.Seq.{drop-cons, get_or-take, length-take-le}
-use Rattle.bits.specs.Bits.{has_bad_bit, first_above}
-use Rattle.bits.proofs.BitLaws.{not_bad, bits_of_not_bad, bad_bit_lem, no_bad_bit}
-use Rattle.field.proofs.Range.{sizes}
+use lib.Seq.{get_or-take}
+use Rattle.std.specs.List.{list_any}
+use Rattle.bits.specs.Bits.{has_bad_bit}
+use Rattle.bits.proofs.BitLaws.{not_bad, bits_of_not_bad}
 use Rattle.codes.specs.declared.Code.{Code}
-use Rattle.codes.specs.Work.{Known}
 use Rattle.kept.specs.declared.Kept.{Kept}
 use Rattle.kept.specs.Record.{some_at_least, bad_record}
 use Rattle.kept.specs.Work.{Sound}
@@ -39,23 +38,11 @@ first_low : {bound x : ℕ} (xs : List ℕ) → x < bound → some_at_least boun
 unfolding some_at_least
 first_low {bound} {x} xs h = ap (λ (b : Bool). b || some_at_least bound xs) (lt-leb bound x h)
 
--- what is left to look at decides
-pub record Looking (bound : ℕ) (xs : List ℕ) (i : ℕ) : Type 0 where
-  pub within : i ≤ length xs
-  pub left : some_at_least bound xs ≡ some_at_least bound (drop i xs)
-
-pub looking_start : (bound : ℕ) (xs : List ℕ) → Looking bound xs 0
-looking_start bound xs = record { within = omega arith; left = refl }
-
-pub looking_next : {bound i : ℕ} {xs : List ℕ} → Looking bound xs i → i < length xs → get_or xs i 0 < bound → Looking bound xs (i + 1)
-looking_next {bound} {i} {xs} l h k =
-    record { within = omega arith; left = l.left ∙ rw (drop-cons xs i 0 h, first_low (drop (suc i) xs) k, add-one i) refl }
-
-pub looking_high : {bound i : ℕ} {xs : List ℕ} → Looking bound xs i → i < length xs → bound ≤ get_or xs i 0 → true ≡ some_at_least bound xs
-looking_high {bound} {i} {xs} l h k = sym (l.left ∙ rw (drop-cons xs i 0 h) (first_high (drop (suc i) xs) k))
-
-pub looking_done : {bound i : ℕ} {xs : List ℕ} → Looking bound xs i → length xs ≤ i → false ≡ some_at_least bound xs
-looking_done {bound} {i} {xs} l h = sym (l.left ∙ rw (drop_of_length-le xs h) (none_at_least bound))
+-- one of them is: std's word for it
+pub any_at_least : (bound : ℕ) (xs : List ℕ) → list_any (λ x. leb bound x) xs ≡ some_at_least bound xs
+unfolding some_at_least
+any_at_least bound [] = refl
+any_at_least bound (x ∷ xs) = ap (λ (b : Bool). leb bound x || b) (any_at_least bound xs)
 
 all_below : {bound : ℕ} (xs : List ℕ) → 0 < bound → some_at_least bound xs ≡ false → (i : ℕ) → get_or xs i 0 < bound
 all_below [] z e i = z
@@ -69,19 +56,6 @@ all_below {bound} (x ∷ xs) z e i = pick (dec_le bound x) (all_below xs z) i
 none_high : {bound : ℕ} (xs : List ℕ) → ((i : ℕ) → get_or xs i 0 < bound) → some_at_least bound xs ≡ false
 none_high {bound} [] h = none_at_least bound
 none_high (x ∷ xs) h = first_low xs (h 0) ∙ none_high xs (λ i. h (suc i))
-
--- the two halves of check 7, as they are looked at
-module _ {c : Code} (stored : Kept) (K : Known c) {bad : ℕ} (e : bad ≡ first_above (take c.n stored.bits)) where
-  pub bad_bits : length stored.bits ≡ 1023 → bad < c.n → true ≡ bad_record c stored
-  bad_bits room h =
-      let long = length-take-le c.n stored.bits (omega (arith, room, K.small)) in
-      rw (bad_bit_lem (take c.n stored.bits) e (omega (arith, long)))
-
-  pub bad_sums : c.n ≤ bad → {r : Bool} → r ≡ some_at_least (c.n + 1) (take c.t stored.sums) → r ≡ bad_record c stored
-  bad_sums h f =
-      let s = sizes K.of_m.listed in
-      let bound : c.n + 1 ≡ 2 ^ c.m = omega (arith, K.is_n) in
-      rw (no_bad_bit (take c.n stored.bits) e (omega (arith, length-take c.n stored.bits)), ← bound) f
 
 pub sound : (c : Code) (stored : Kept) → bad_record c stored ≡ false → Sound c stored
 sound c stored e =

@@ -11,15 +11,7 @@ use codes::Code;
 fn some_at_least(bound: usize, entries: &[u16]) -> bool
     ensures { result ≡ some_at_least bound entries.now }
 {
-    let mut i = 0;
-    while i < entries.len() {
-        let x = entries[i] as usize;
-        if bound <= x {
-            return true;
-        }
-        i += 1;
-    }
-    false
+    entries.iter().any(|entry| bound <= usize::from(*entry))
 }
 
 // Whether check 7 refuses the record. `code` is the code of the record's m and t.
@@ -27,13 +19,7 @@ pub fn is_bad(code: Code, stored: Kept) -> bool
     requires { Known code }
     ensures { result ≡ bad_record code stored }
 {
-    let n = code.n;
-    let bits = stored.bits;
-    let bad = bits::first_above_one(&bits[..n]);
-    if bad < n {
-        return true;
-    }
-    let t = code.t;
-    let sums = stored.sums;
-    some_at_least(n + 1, &sums[..t])
+    let Code { n, t, .. } = code;
+    let Kept { bits, sums, .. } = stored;
+    bits::first_above_one(&bits[..n]).is_some() || some_at_least(n + 1, &sums[..t])
 }

@@ -7,7 +7,6 @@ mod opening;
 
 pub use checking::is_bad;
 pub use opening::open;
-use sheet::Outcome;
 
 // A received word, place by place, kept with its odd sums.
 #[derive(Clone, Copy)]
@@ -16,10 +15,4 @@ pub struct Kept {
     pub t: usize,
     pub bits: [u8; 1023],
     pub sums: [u16; 255],
-}
-
-#[derive(Clone, Copy)]
-pub struct Answer {
-    pub outcome: Outcome,
-    pub record: Kept,
 }

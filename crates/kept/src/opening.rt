@@ -5,47 +5,28 @@ ghost use Rattle.codes.specs.Work.{Checked};
 ghost use Rattle.kept.specs.Open.{Opens, Opened, open_checks};
 ghost use Rattle.kept.specs.Work.{OpenReady};
 
-use crate::{Answer, Kept};
-use codes::{Code, Look};
-use sheet::{Outcome, Refusal};
+use crate::Kept;
+use codes::Code;
+use sheet::Refusal;
 
-// A refused Open gives the record of zeros.
-pub fn open(m: usize, t: usize, word: &[u8]) -> Answer
+pub fn open(m: usize, t: usize, word: &[u8]) -> Result<Kept, Refusal>
     ensures { Opens m t word.now result }
 {
-    let checked = checks(m, t, word);
-    match checked {
-        Look::Passes(code) => Answer {
-            outcome: Outcome::Done,
-            record: opened(code, word),
-        },
-        Look::Refused(r) => Answer {
-            outcome: Outcome::Refused(r),
-            record: Kept {
-                m: 0,
-                t: 0,
-                bits: word_space(),
-                sums: sums::space(),
-            },
-        },
-    }
+    let code = checks(m, t, word)?;
+    Ok(opened(code, word))
 }
 
-fn checks(m: usize, t: usize, word: &[u8]) -> Look
+fn checks(m: usize, t: usize, word: &[u8]) -> Result<Code, Refusal>
     ensures { Checked m t (open_checks word.now) result }
 {
-    let look = codes::look_up(m, t);
-    let Look::Passes(code) = look else {
-        return look;
-    };
+    let code = codes::look_up(m, t)?;
     if word.len() != code.n {
-        return Look::Refused(Refusal::InputLength);
+        return Err(Refusal::InputLength);
     }
-    let place = bits::first_above_one(word);
-    if place < word.len() {
-        return Look::Refused(Refusal::BitAboveOne { buffer: 0, place });
+    if let Some(place) = bits::first_above_one(word) {
+        return Err(Refusal::BitAboveOne { buffer: 0, place });
     }
-    look
+    Ok(code)
 }
 
 // Past the checks.
@@ -65,14 +46,8 @@ fn padded(word: &[u8]) -> [u8; 1023]
     requires { length word.now ≤ 1023 }
     ensures { result ≡ word.now ++ replicate (1023 - length word.now) 0 }
 {
-    let mut space = word_space();
-    bits::copy_at(&mut space, 0, word);
+    let mut space = [0; 1023];
+    let end = word.len();
+    space[..end].copy_from_slice(word);
     space
-}
-
-// Room for any word.
-fn word_space() -> [u8; 1023]
-    ensures { result ≡ replicate 1023 0 }
-{
-    [0; 1023]
 }

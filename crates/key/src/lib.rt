@@ -14,13 +14,11 @@ fn square_sums(m: usize, powers: &[u16], logs: &[u16], t: usize, sums: &[u16], a
         × (2 * t ≤ length all.old) }
     ensures { Squared m t sums.now all.new }
 {
-    let mut i = 0;
-    while i < t {
+    for i in 0..t {
         all[2 * i] = sums[i];
         let s = all[i];
         let square = field::product(m, powers, logs, s, s);
         all[2 * i + 1] = square;
-        i += 1;
     }
 }
 
@@ -47,11 +45,8 @@ fn missed(
     ensures { result ≡ crossed m sigma.now all.now r (l + 1) }
 {
     let mut d = 0;
-    let mut i = 0;
-    while i <= l {
-        let s = field::product(m, powers, logs, sigma[i], all[r - i]);
-        d = d ^ s;
-        i += 1;
+    for i in 0..=l {
+        d ^= field::product(m, powers, logs, sigma[i], all[r - i]);
     }
     d
 }
@@ -71,27 +66,9 @@ fn mend(
         × ((i : ℕ) → i < count → get_or b.now i 0 < 2 ^ m) }
     ensures { Filled (plus_moved m factor gap b.now sigma.old) count sigma.old sigma.new }
 {
-    let mut i = gap;
-    while i < count {
-        let s = field::product(m, powers, logs, factor, b[i - gap]);
-        let old = sigma[i];
-        sigma[i] = old ^ s;
-        i += 1;
+    for i in gap..count {
+        sigma[i] ^= field::product(m, powers, logs, factor, b[i - gap]);
     }
-}
-
-// Room for sigma and for b, t at most 255.
-pub fn space() -> [u16; 257]
-    ensures { result ≡ replicate 257 0 }
-{
-    [0; 257]
-}
-
-// Room for 2t sums.
-fn sums_space() -> [u16; 510]
-    ensures { 510 ≡ length result }
-{
-    [0; 510]
 }
 
 // Mends the first `count` entries of sigma, and copies the first `whole` entries of the old sigma into b.
@@ -111,10 +88,10 @@ fn renew(
     ensures { Filled (plus_moved m factor gap b.old sigma.old) count sigma.old sigma.new
         × Filled (entry sigma.old) whole b.old b.new }
 {
-    let mut old = space();
-    entries::copy_first(whole, sigma, &mut old);
+    let mut old = [0; 257];
+    old[..whole].copy_from_slice(&sigma[..whole]);
     mend(m, powers, logs, factor, gap, count, b, sigma);
-    entries::copy_first(whole, &old, b);
+    b[..whole].copy_from_slice(&old[..whole]);
 }
 
 // Step r of the run. Where l passes t, sigma and b stay as they are.
@@ -176,14 +153,12 @@ fn run_all(
     sigma[0] = 1;
     b[0] = 1;
     let mut at = At { l: 0, gap: 1, q: 1 };
-    let mut r = 0;
-    while r < 2 * t {
+    for r in 0..2 * t {
         at = step(m, powers, logs, t, all, r, at, sigma, b);
         let l = at.l;
         if t < l {
             return l;
         }
-        r += 1;
     }
     at.l
 }
@@ -201,8 +176,8 @@ pub fn solve(
         × (sigma.old ≡ replicate 257 0) }
     ensures { SolvedFor m t sums.now result sigma.new }
 {
-    let mut all = sums_space();
+    let mut all = [0; 510];
     square_sums(m, powers, logs, t, sums, &mut all);
-    let mut b = space();
+    let mut b = [0; 257];
     run_all(m, powers, logs, t, &all, sigma, &mut b)
 }

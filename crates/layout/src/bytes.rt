@@ -13,12 +13,8 @@ pub fn pack(word: &[u8], frame: &mut [u8])
     requires { AreBits word.now × (length word.now ≡ 255) × (length frame.old ≡ 32) }
     ensures { Packed word.now frame.new }
 {
-    let mut b = 0;
-    while b < 32 {
-        let number = 8 * b;
-        let byte = places::gather(word, Sent { number }, 8);
-        frame[b] = byte as u8;
-        b += 1;
+    for (b, byte) in frame.iter_mut().enumerate() {
+        *byte = places::gather(word, Sent { number: 8 * b }, 8) as u8;
     }
 }
 
@@ -26,10 +22,7 @@ pub fn unpack(frame: &[u8], word: &mut [u8])
     requires { (length frame.now ≡ 32) × (length word.old ≡ 255) }
     ensures { word.new ≡ word_of frame.now }
 {
-    let mut p = 0;
-    while p < 255 {
-        let sent = places::sent_of(Place { number: p });
-        word[p] = places::sent_bit(frame, sent);
-        p += 1;
+    for (number, bit) in word.iter_mut().enumerate() {
+        *bit = places::sent_bit(frame, places::sent_of(Place { number }));
     }
 }

@@ -7,5 +7,5 @@ mod message;
 mod places;
 
 pub use bytes::{pack, unpack};
-pub use message::{Reading, fill_message, lead_is_wrong, message_space, reading_of};
-pub use places::{Place, Sent, place_of, sent_bit, sent_of, word_space};
+pub use message::{Reading, fill_message, lead_is_wrong, reading_of};
+pub use places::{Place, Sent, place_of, sent_bit, sent_of};

@@ -1,11 +1,14 @@
 // A reading and its message: the lead and the fields into bits, and back.
 
-ghost use Rattle.std.specs.Prelude.{◌≡◌, false, ◌<◌, length, get_or, replicate};
+ghost use Rattle.std.specs.Prelude.{◌≡◌, false, ◌<◌, length, get_or};
 ghost use Rattle.bits.specs.Bits.{AreBits};
 ghost use Rattle.layout.specs.Frame.{lead, message_bit, message_of, lead_is_wrong, Carries};
 
 use crate::places;
 use crate::places::Sent;
+
+// The bits of the lead, first sent first.
+const LEAD: [u8; 3] = [1, 0, 1];
 
 // What a frame carries.
 #[derive(Clone, Copy)]
@@ -15,20 +18,12 @@ pub struct Reading {
     pub counter: u64,
 }
 
-pub fn message_space() -> [u8; 99]
-    ensures { result ≡ replicate 99 0 }
-{
-    [0; 99]
-}
-
 pub fn fill_message(reading: Reading, message: &mut [u8])
     requires { length message.old ≡ 99 }
     ensures { message.new ≡ message_of reading }
 {
-    let mut i = 0;
-    while i < 99 {
-        message[i] = message_bit(reading, i);
-        i += 1;
+    for (i, bit) in message.iter_mut().enumerate() {
+        *bit = message_bit(reading, i);
     }
 }
 
@@ -36,17 +31,12 @@ fn message_bit(reading: Reading, i: usize) -> u8
     requires { i < 99 }
     ensures { result ≡ message_bit reading i }
 {
-    if i < 64 {
-        return ((reading.counter >> i) % 2) as u8;
+    match i {
+        0..=63 => ((reading.counter >> i) % 2) as u8,
+        64..=79 => ((reading.poll >> (i - 64)) % 2) as u8,
+        80..=95 => ((reading.house >> (i - 80)) % 2) as u8,
+        _ => lead_bit(Sent { number: 98 - i }),
     }
-    if i < 80 {
-        return ((reading.poll >> (i - 64)) % 2) as u8;
-    }
-    if i < 96 {
-        return ((reading.house >> (i - 80)) % 2) as u8;
-    }
-    let number = 98 - i;
-    lead_bit(Sent { number })
 }
 
 // The bit of the lead that every frame sends under this number.
@@ -54,9 +44,7 @@ fn lead_bit(sent: Sent) -> u8
     requires { sent.number < 3 }
     ensures { result ≡ get_or lead sent.number 0 }
 {
-    let first_sent_first: [u8; 3] = [1, 0, 1];
-    let q = sent.number;
-    first_sent_first[q]
+    LEAD[sent.number]
 }
 
 // Whether a word sends another lead.
@@ -64,14 +52,10 @@ pub fn lead_is_wrong(word: &[u8]) -> bool
     requires { length word.now ≡ 255 }
     ensures { result ≡ lead_is_wrong word.now }
 {
-    let mut number = 0;
-    while number < 3 {
-        let sent = places::air_bit(word, Sent { number });
-        let right = lead_bit(Sent { number });
-        if sent != right {
+    for number in 0..3 {
+        if places::air_bit(word, Sent { number }) != lead_bit(Sent { number }) {
             return true;
         }
-        number += 1;
     }
     false
 }

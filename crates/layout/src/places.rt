@@ -1,6 +1,6 @@
 // Places of the word, sent numbers, and the bits that stand there.
 
-ghost use Rattle.std.specs.Prelude.{◌≡◌, ◌+◌, ◌-◌, ◌≤◌, length, replicate};
+ghost use Rattle.std.specs.Prelude.{◌≡◌, ◌+◌, ◌-◌, ◌≤◌, length};
 ghost use Rattle.bits.specs.Bits.{AreBits};
 ghost use Rattle.layout.specs.Frame.{sent_bit};
 ghost use Rattle.layout.specs.Work.{air_bit, Gathered};
@@ -35,12 +35,6 @@ pub fn sent_of(place: Place) -> Sent
     }
 }
 
-pub fn word_space() -> [u8; 255]
-    ensures { result ≡ replicate 255 0 }
-{
-    [0; 255]
-}
-
 // The bit of a frame with this sent number.
 pub fn sent_bit(frame: &[u8], sent: Sent) -> u8
     requires { (length frame.now ≡ 32) × (sent.number ≤ 255) }
@@ -58,9 +52,7 @@ pub(crate) fn air_bit(word: &[u8], sent: Sent) -> u8
     ensures { result ≡ air_bit word.now sent.number }
 {
     if sent.number < 255 {
-        let place = place_of(sent);
-        let p = place.number;
-        word[p]
+        word[place_of(sent).number]
     } else {
         0
     }
@@ -71,20 +63,10 @@ pub(crate) fn gather(word: &[u8], from: Sent, count: usize) -> u64
     requires { AreBits word.now × (length word.now ≡ 255) × (from.number + count ≤ 256) × (count ≤ 64) }
     ensures { Gathered word.now from.number count result }
 {
-    let first = from.number;
-    let mut v: u64 = 0;
-    let mut i = 0;
-    while i < count {
-        let number = first + i;
-        let bit = air_bit(word, Sent { number });
-        v = 2 * v + wide(bit);
-        i += 1;
+    let mut v = 0;
+    for i in 0..count {
+        let number = from.number + i;
+        v = 2 * v + u64::from(air_bit(word, Sent { number }));
     }
     v
-}
-
-fn wide(x: u8) -> u64
-    ensures { result ≡ x }
-{
-    x as u64
 }

@@ -1,9 +1,7 @@
 -- One line of the listing. docs/SCOPE.md 7.1: "the frame number from 1; `read` or `refused`; after `read` the house, poll, counter and wrong places, all
 -- decimal, with single spaces; after `refused` the number".
-use Rattle.std.specs.Prelude.{◌≡◌, cond, List, [], ◌∷◌, ◌++◌, ℕ, zero, suc, ◌+◌, ◌/◌, ◌%◌, ltb, length, drop}
+use Rattle.std.specs.Prelude.{◌≡◌, cond, List, [], ◌∷◌, ◌++◌, ℕ, zero, suc, ◌+◌, ◌/◌, ◌%◌, ltb, length, drop, Result, Ok, Err}
 use Rattle.sheet.specs.declared.Refusal.{Refusal}
-use Rattle.sheet.specs.declared.Outcome.{Outcome}
-use Rattle.sheet.specs.declared.Outcome.TheVariants.{Done, Refused}
 use Rattle.sheet.specs.Number.{number_of}
 use Rattle.layout.specs.declared.message.Reading.{Reading}
 use Rattle.frame.specs.declared.reading.ReadFrame.{ReadFrame}
@@ -46,12 +44,9 @@ refused_line f r = decimal f ++ refused_text ++ decimal (number_of r) ++ newline
 unfoldable pub refusal_line : Refusal → List ℕ
 refusal_line r = refused_word ++ decimal (number_of r) ++ newline
 
-abbrev pub line_for : ℕ → Outcome → Reading → ℕ → List ℕ
-line_for f Done reading wrong = read_line f reading wrong
-line_for f (Refused r) reading wrong = refused_line f r
-
-abbrev pub line_of : ℕ → ReadFrame → List ℕ
-line_of f answer = line_for f answer.outcome answer.reading answer.wrong
+abbrev pub line_of : ℕ → Result ReadFrame Refusal → List ℕ
+line_of f (Ok read) = read_line f read.reading read.wrong
+line_of f (Err r) = refused_line f r
 
 -- the line stands at the front of the buffer, the rest is as lent, and the line's length comes back
 pub record Writes (line lent left : List ℕ) (count : ℕ) : Type 0 where

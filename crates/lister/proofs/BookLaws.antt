@@ -1,23 +1,21 @@
 -- The frames of a book, one after another, and their lines.
 use mathlib.Core.Path.{◌≡◌, ◌∙◌, sym, ap, subst}
 use mathlib.Core.List.{List}
-use Prim.Native.Nat.{ℕ, ◌+◌, ◌-◌, ◌*◌, ◌≤◌, ◌<◌}
+use Prim.Native.Nat.{ℕ, ◌+◌, ◌*◌, ◌≤◌, ◌<◌}
 use native.Mathlib.Omega.{arith}
 use denote.Ref.{Bor}
 use lib.ListN.{length, take, drop, length-drop}
-use lib.Seq.{take-take, drop-drop}
+use lib.Seq.{drop-drop}
 use Rattle.sheet.specs.declared.Refusal.{Refusal}
-use Rattle.sheet.specs.declared.Outcome.TheVariants.{Done, Refused}
-use Rattle.sheet.proofs.VerdictLaws.{done_passed}
-use Rattle.book.specs.declared.reading.Looked.{Looked}
+use Rattle.std.specs.Prelude.{Result, Ok, Err}
 use Rattle.book.specs.Book.{frame_start}
 use Rattle.book.specs.Read.{Looks, ReadsPart}
-use Rattle.book.proofs.ReadLaws.{passed, frame_read, looked_refused}
+use Rattle.book.proofs.ReadLaws.{passed, frame_read, looked_refused, looked_count}
 use Rattle.line.specs.Line.{refusal_line, Writes}
 use Rattle.line.proofs.LineLaws.{writes_fits}
 use Rattle.lister.specs.Listing.{frame_at, ListsFirst, frames_in, ListsBook, lists, refuses}
 use Rattle.lister.specs.Work.{Counts}
-use Rattle.lister.proofs.ListLaws.{between}
+use Rattle.lister.proofs.ListLaws.{frame_front}
 
 -- frame i of the frames is where frame i of the book starts
 frame_in : (book : List ℕ) (count i : ℕ) → 32 * count + 16 ≤ length book → i < count
@@ -27,8 +25,7 @@ frame_in book count i fits h =
     let there : first + 32 * i ≡ frame_start book count i = omega arith in
     let rest = drop first book in
     let long = length-drop first book in
-    ap (take 32) (between rest (32 * i) (32 * count) (omega arith) (omega arith))
-    ∙ take-take 32 (32 * count - 32 * i) (drop (32 * i) rest) (omega arith)
+    frame_front rest (32 * count) i (omega arith) (omega (arith, long))
     ∙ ap (take 32) (drop-drop (32 * i) first book ∙ ap (λ (n : ℕ). drop n book) there)
 
 -- the part that is read is that frame
@@ -41,8 +38,8 @@ part_is {book} {count = count} {i} c p h =
     ∙ ap (λ (n : ℕ). take 32 (drop (frame_start book.now n i) book.now)) (sym c.is)
     ∙ sym (frame_in book.now count i fits h)
 
-pub counted : {book : List ℕ} {answer : Looked} → Looks book answer → answer.outcome ≡ Done → Counts book answer.count
-counted p e = let z = done_passed p e in record { passes = z; is = (p.done z).did.is }
+pub counted : {book : List ℕ} {answer : Result ℕ Refusal} {count : ℕ} → Looks book answer → answer ≡ Ok count → Counts book count
+counted p e = let (z, is) = looked_count p e in record { passes = z; is = is }
 
 -- a book has 1,000 frames at most
 pub counted_few : {book : List ℕ} {count : ℕ} → Counts book count → count ≤ 1000
@@ -55,7 +52,7 @@ pub book_listed : {book lent left : List ℕ} {count end : ℕ} → Counts book 
 book_listed {book} {lent} {left} {end = end} c l =
     lists c.passes (subst (λ (n : ℕ). ListsFirst 1 n (frames_in book n) lent left end) c.is l)
 
-pub book_refused : {book lent left : List ℕ} {answer : Looked} {r : Refusal} {end : ℕ} → Looks book answer → answer.outcome ≡ Refused r
+pub book_refused : {book lent left : List ℕ} {answer : Result ℕ Refusal} {r : Refusal} {end : ℕ} → Looks book answer → answer ≡ Err r
     → Writes (refusal_line r) lent left end → ListsBook book lent left end
 book_refused {r = r} p e w = refuses r (looked_refused p e) w
 

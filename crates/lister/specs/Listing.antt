@@ -1,10 +1,9 @@
 -- The listing: what it lists of bytes that came in, one step of it where they come in pieces, and what it lists of a book.
 -- docs/SCOPE.md 7.1: "It writes one line for each frame"; "A short last frame is refused 9. There is no header, and empty input writes nothing."
-use Rattle.std.specs.Prelude.{◌≡◌, List, [], ◌∷◌, ◌++◌, ℕ, zero, suc, ◌+◌, ◌*◌, ◌/◌, ◌%◌, length, take, drop}
+use Rattle.std.specs.Prelude.{◌≡◌, List, [], ◌∷◌, ◌++◌, ℕ, zero, suc, ◌+◌, ◌*◌, ◌/◌, ◌%◌, length, take, drop, Result, Ok, Err}
 use Rattle.frame.specs.declared.reading.ReadFrame.{ReadFrame}
 use Rattle.frame.specs.Read.{Reads}
 use Rattle.sheet.specs.declared.Refusal.{Refusal}
-use Rattle.sheet.specs.declared.Outcome.TheVariants.{Done, Refused}
 use Rattle.sheet.specs.Verdict.{verdict}
 use Rattle.book.specs.Book.{frame_start}
 use Rattle.book.specs.Read.{count_of, book_checks}
@@ -21,7 +20,7 @@ frames_of bytes = (length bytes + 31) / 32
 
 -- the line of the frame with this number says what reading the frame answers
 pub record LineOf (number : ℕ) (frame line : List ℕ) : Type 0 where
-  pub answer : ReadFrame
+  pub answer : Result ReadFrame Refusal
   pub reads : Reads frame answer
   pub is : line ≡ line_of number answer
 
@@ -67,5 +66,5 @@ frames_in book count = take (32 * count) (drop (frame_start book count 0) book)
 -- docs/SCOPE.md 7.3: "It writes the lines that the listing writes of the frames, numbered from 1."; "A book that is refused gets the one line `refused` and
 -- the number"
 pub data ListsBook (book lent left : List ℕ) (end : ℕ) : Type 0 where
-  lists : verdict (book_checks book) ≡ Done → ListsFirst 1 (count_of book) (frames_in book (count_of book)) lent left end → ListsBook book lent left end
-  refuses : (r : Refusal) → verdict (book_checks book) ≡ Refused r → Writes (refusal_line r) lent left end → ListsBook book lent left end
+  lists : verdict (book_checks book) ≡ Ok tt → ListsFirst 1 (count_of book) (frames_in book (count_of book)) lent left end → ListsBook book lent left end
+  refuses : (r : Refusal) → verdict (book_checks book) ≡ Err r → Writes (refusal_line r) lent left end → ListsBook book lent left end

@@ -1,6 +1,5 @@
 -- What the steps of the listing ask and hand to each other; no promise rests on it.
-use Rattle.std.specs.Prelude.{◌≡◌, List, ◌++◌, ℕ, ◌+◌, ◌*◌, ◌≤◌, ◌<◌, length, take, drop}
-use Rattle.sheet.specs.declared.Outcome.TheVariants.{Done}
+use Rattle.std.specs.Prelude.{◌≡◌, List, ℕ, ◌+◌, ◌*◌, ◌≤◌, ◌<◌, length, take, Ok}
 use Rattle.sheet.specs.Verdict.{verdict}
 use Rattle.book.specs.Read.{count_of, book_checks}
 use Rattle.line.specs.Work.{Put}
@@ -14,14 +13,12 @@ pub record Room (listed : ℕ) (frames lines : List ℕ) : Type 0 where
   pub long : 64000 ≤ length lines
 
 -- between two reads: what was read so far was taken in step by step, and every byte of it is in a frame that is listed, or held
-pub record Going (at : Progress) (left : ℕ) (frames lines : List ℕ) : Type 0 where
+pub record Going (at : Progress) (left : ℕ) (frames : List ℕ) : Type 0 where
   pub pieces : List (List ℕ)
   pub text : List ℕ
   pub steps : Steps pieces text at.listed (take at.held frames)
   pub bytes : 32 * at.listed + at.held + left ≡ 32000000
   pub held : at.held < 32
-  pub block : length frames ≡ 16000
-  pub long : 64000 ≤ length lines
 
 -- the line of a frame is stored from index end on, and next is the index past it; a line has at most 128 bytes
 pub record AddsLine (number : ℕ) (frame lent : List ℕ) (end : ℕ) (left : List ℕ) (next : ℕ) : Type 0 where
@@ -38,11 +35,7 @@ pub record ListedTo (before : ℕ) (bytes lent left : List ℕ) (i number end : 
   pub number_is : number ≡ before + i
   pub most : end ≤ 128 * i
 
--- so many bytes from a place on stand at the front, and the rest is as it was
-abbrev pub moved_front : List ℕ → ℕ → ℕ → List ℕ
-moved_front bytes from count = take count (drop from bytes) ++ drop count bytes
-
 -- the book passes its checks and has so many frames
 pub record Counts (book : List ℕ) (count : ℕ) : Type 0 where
-  pub passes : verdict (book_checks book) ≡ Done
+  pub passes : verdict (book_checks book) ≡ Ok tt
   pub is : count ≡ count_of book

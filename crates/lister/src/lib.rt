@@ -4,9 +4,9 @@
 
 mod books;
 
-ghost use Rattle.std.specs.Prelude.{◌≡◌, ◌+◌, ◌*◌, ◌≤◌, length};
-ghost use Rattle.lister.specs.Listing.{frame_at, ListsFirst, Lists, TakesIn};
-ghost use Rattle.lister.specs.Work.{Room, AddsLine, moved_front};
+ghost use Rattle.std.specs.Prelude.{◌≡◌, ◌+◌, ◌≤◌, length};
+ghost use Rattle.lister.specs.Listing.{Lists, TakesIn};
+ghost use Rattle.lister.specs.Work.{Room, AddsLine};
 
 pub use books::list_book;
 use input::{STDERR_FILENO, STDOUT_FILENO};
@@ -20,81 +20,91 @@ struct Progress {
     end: usize,
 }
 
-// Lists frames until the input ends, a read or a write fails, or 1,000,000 frames are listed.
-pub fn list<R: Read>(reader: &mut R) {
-    let mut frames = io::large_buffer();
-    let mut lines = io::large_buffer();
-    list_pieces(reader, &mut frames[..16000], &mut lines);
+// The listing between two reads: how far it is, and the buffers for frames and for lines.
+#[derive(Drop)]
+struct Lister {
+    at: Progress,
+    frames: [u8; 16000],
+    lines: [u8; 64000],
+    ghost frames_long: { length frames ≡ 16000 },
+    ghost lines_long: { length lines ≡ 64000 },
+    ghost within: { (at.held ≤ 16000) × (at.end ≤ 64000) },
 }
 
-// Reads at most 32,000,000 bytes, so that what follows the millionth frame is not read.
-fn list_pieces<R: Read>(reader: &mut R, frames: &mut [u8], lines: &mut [u8])
-    requires { (length frames.old ≡ 16000) × (64000 ≤ length lines.old) }
-{
-    let mut at = Progress {
-        listed: 0,
-        held: 0,
-        end: 0,
-    };
+// Lists frames until the input ends, a read or a write fails, or 1,000,000 frames are listed.
+pub fn list<R: Read>(reader: &mut R) {
+    let mut lister = Lister::new();
+    // What follows the millionth frame is not read.
     let mut left = 32000000;
     while left > 0 {
-        let came = input::read_after(reader, at.held, left, frames);
-        let count = came.count;
-        if count < 1 {
-            end_input(came.failed, at, frames, lines);
+        let Ok(count) = input::read_after(reader, lister.at.held, left, &mut lister.frames) else {
+            // The rest of a frame that has come in part may still come, so it gets no line.
+            io::write_all(STDERR_FILENO, b"listing: reading standard input failed\n");
+            return;
+        };
+        if count == 0 {
+            lister.end_input();
             return;
         }
-        at = take_in(at, count, frames, lines);
-        if !write_out(at.end, lines) {
+        lister.take_in(count);
+        if !write_out(&lister.lines[..lister.at.end]) {
             return;
         }
         left -= count;
     }
 }
 
-// Lists the frames that are whole, and moves what is left to the front of the buffer.
-fn take_in(at: Progress, came: usize, frames: &mut [u8], lines: &mut [u8]) -> Progress
-    requires { Room at.listed frames.old lines.old × (at.held + came ≤ length frames.old) }
-    ensures { TakesIn at came frames.old lines.old frames.new lines.new result }
-{
-    let got = at.held + came;
-    let whole = got / 32;
-    let end = list_frames(at.listed, whole, &frames[..got], lines);
-    let from = 32 * whole;
-    let rest = got - from;
-    move_front(frames, from, rest);
-    let listed = at.listed + whole as u64;
-    Progress {
-        listed,
-        held: rest,
-        end,
+impl Lister {
+    fn new() -> Lister
+        ensures { (result.at.listed ≡ 0) × (result.at.held ≡ 0) }
+    {
+        Lister {
+            at: Progress {
+                listed: 0,
+                held: 0,
+                end: 0,
+            },
+            frames: [0; 16000],
+            lines: [0; 64000],
+        }
+    }
+
+    // Lists the frames that are whole, and moves what is left to the front of the buffer.
+    fn take_in(&mut self, came: usize)
+        requires { (self.old.at.listed ≤ 1000000) × (self.old.at.held + came ≤ 16000) }
+        ensures { TakesIn self.old.at came self.old.frames self.old.lines self.new.frames self.new.lines self.new.at }
+    {
+        let got = self.at.held + came;
+        let whole = got - got % 32;
+        let end = fill_lines(self.at.listed, &self.frames[..whole], &mut self.lines);
+        self.frames.copy_within(whole..got, 0);
+        self.at = Progress {
+            listed: self.at.listed + (whole / 32) as u64,
+            held: got - whole,
+            end,
+        };
+    }
+
+    // A frame that has come in part at the end of the input is short.
+    fn end_input(&mut self)
+        requires { self.old.at.listed ≤ 1000000 }
+    {
+        let end = fill_lines(
+            self.at.listed,
+            &self.frames[..self.at.held],
+            &mut self.lines,
+        );
+        write_out(&self.lines[..end]);
     }
 }
 
-// A frame that has come in part at the end of the input is short. After a failed read its rest may still come, so it gets no line.
-fn end_input(failed: bool, at: Progress, frames: &[u8], lines: &mut [u8])
-    requires { Room at.listed frames.now lines.old × (at.held ≤ length frames.now) }
-{
-    if failed {
-        io::write_all(STDERR_FILENO, b"listing: reading standard input failed\n");
-        return;
-    }
-    let held = at.held;
-    let end = fill_lines(at.listed, &frames[..held], lines);
-    write_out(end, lines);
+fn write_out(lines: &[u8]) -> bool {
+    write_or_say(lines, b"listing: writing standard output failed\n")
 }
 
-fn write_out(end: usize, lines: &[u8]) -> bool
-    requires { end ≤ length lines.now }
-{
-    write_or_say(end, lines, b"listing: writing standard output failed\n")
-}
-
-// Writes the first `end` bytes, or says that it failed.
-pub(crate) fn write_or_say(end: usize, lines: &[u8], failure: &[u8]) -> bool
-    requires { end ≤ length lines.now }
-{
-    let written = io::write_all(STDOUT_FILENO, &lines[..end]);
+// Writes the lines, or says that it failed.
+pub(crate) fn write_or_say(lines: &[u8], failure: &[u8]) -> bool {
+    let written = io::write_all(STDOUT_FILENO, lines);
     if !written {
         io::write_all(STDERR_FILENO, failure);
     }
@@ -106,55 +116,19 @@ fn fill_lines(before: u64, frames: &[u8], lines: &mut [u8]) -> usize
     requires { Room before frames.now lines.old }
     ensures { Lists (before + 1) frames.now lines.old lines.new result }
 {
-    let count = (frames.len() + 31) / 32;
-    list_frames(before, count, frames, lines)
-}
-
-// The lines of the first `count` frames.
-fn list_frames(before: u64, count: usize, frames: &[u8], lines: &mut [u8]) -> usize
-    requires { Room before frames.now lines.old × (32 * count ≤ length frames.now + 31) }
-    ensures { ListsFirst (before + 1) count frames.now lines.old lines.new result }
-{
     let mut number = before;
     let mut end = 0;
-    let mut i = 0;
-    while i < count {
+    for frame in frames.chunks(32) {
         number += 1;
-        end = add_line(number, i, frames, end, lines);
-        i += 1;
+        end = put_line(number, frame, end, lines);
     }
     end
 }
 
-// Puts the line of frame `i` after the first `end` bytes. Gives where it ends.
-fn add_line(number: u64, i: usize, frames: &[u8], end: usize, lines: &mut [u8]) -> usize
-    requires { (32 * i ≤ length frames.now) × (length frames.now ≤ 16000) × (end + 128 ≤ length lines.old) }
-    ensures { AddsLine number (frame_at frames.now i) lines.old end lines.new result }
-{
-    let from = 32 * i;
-    let to = input::least(from + 32, frames.len());
-    put_line(number, &frames[from..to], end, lines)
-}
-
-// The same for the bytes of a frame.
+// Puts the line of a frame after the first `end` bytes. Gives where it ends.
 pub(crate) fn put_line(number: u64, frame: &[u8], end: usize, lines: &mut [u8]) -> usize
     requires { end + 128 ≤ length lines.old }
     ensures { AddsLine number frame.now lines.old end lines.new result }
 {
-    let answer = frame::read(frame);
-    let room = end + 128;
-    let long = line::write_line(number, answer, &mut lines[end..room]);
-    end + long
-}
-
-// Moves `count` bytes to the front. A byte is read before it is overwritten, since it stands no nearer to the front than its new place.
-fn move_front(buffer: &mut [u8], from: usize, count: usize)
-    requires { from + count ≤ length buffer.old }
-    ensures { buffer.new ≡ moved_front buffer.old from count }
-{
-    let mut place = 0;
-    while place < count {
-        buffer[place] = buffer[from + place];
-        place += 1;
-    }
+    end + line::write_line(number, frame::read(frame), &mut lines[end..end + 128])
 }

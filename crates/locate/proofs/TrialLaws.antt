@@ -1,5 +1,5 @@
 -- The trial of the places: values term by term, and the list of the zeros.
-use mathlib.Core.Path.{◌≡◌, ◌∙◌, refl, sym, ap, ap₂}
+use mathlib.Core.Path.{◌≡◌, ◌∙◌, refl, sym, ap, ap₂, subst}
 use mathlib.Core.Logic.{◌⊎◌, inl, inr}
 use mathlib.Core.Bool.{Bool, cond}
 use mathlib.Core.List.Memᴰ
@@ -12,7 +12,7 @@ use native.Mathlib.Omega.{arith}
 use borrow.Author.Tests.{eq-eqb, ne_eqb}
 use lib.Dec.{eqb}
 use lib.ListN.{length, get_or, take, set, length-append, length-set}
-use lib.Seq.{take-suc-set}
+use lib.Seq.{take-suc-set, get_or-take, length-take-le}
 use Rattle.bits.specs.Differences.{Ascending}
 use Rattle.field.specs.Sum.{◌⊕◌}
 use Rattle.field.specs.Product.{IsField, ◌⊗⟨◌⟩◌}
@@ -262,6 +262,35 @@ trying_done {m} {t} {c} {n} {i = i} {sigma} s is h = record { all_of = λ k. s.n
   where
     end : i ≡ n_of m
     end = omega (arith, s.within)
+
+-- the trial of the coefficients in front
+
+value_front : (m y : ℕ) (xs ys : List ℕ) (k c : ℕ) → ((i : ℕ) → i < c → get_or xs (k + i) 0 ≡ get_or ys (k + i) 0)
+    → value_from m y xs k c ≡ value_from m y ys k c
+value_front m y xs ys k zero h = value_zero m y xs k ∙ sym (value_zero m y ys k)
+value_front m y xs ys k (suc c) h =
+    value_suc m y xs k c
+    ∙ ap₂ (λ u v. u ⊕ y ⊗⟨ m ⟩ v) (rw (add-zero k) at (h 0 (omega arith))) (value_front m y xs ys (suc k) c (λ i l. rw (back i) (h (suc i) (omega arith))))
+    ∙ sym (value_suc m y ys k c)
+  where
+    back : (i : ℕ) → suc k + i ≡ k + suc i
+    back i = omega arith
+
+zeros_front : (m : ℕ) (sigma : List ℕ) (c i : ℕ) → zeros m (take c sigma) c i ≡ zeros m sigma c i
+zeros_front m sigma c zero = zeros-zero m (take c sigma) c ∙ sym (zeros-zero m sigma c)
+zeros_front m sigma c (suc i) =
+    zeros-suc m (take c sigma) c i
+    ∙ ap₂ (λ (v : ℕ) (l : List ℕ). cond (eqb v 0) (l ++ (i ∷ [])) l)
+    (value_front m (power m a (n_of m - i)) (take c sigma) sigma 0 c (λ j h. get_or-take c sigma (0 + j) 0 (omega arith))) (zeros_front m sigma c i)
+    ∙ sym (zeros-suc m sigma c i)
+
+pub front_tried : {m t found : ℕ} {places : List ℕ} (c : ℕ) (sigma : List ℕ) → c ≤ length sigma → Tried m t (take c sigma) (length (take c sigma)) found places
+    → Tried m t sigma c found places
+front_tried {m} {t} {found} {places} c sigma h s =
+    record { all_of = λ k. w.all_of k ∙ zeros_front m sigma c (n_of m); most = λ k. rw (← (zeros_front m sigma c (n_of m))) (w.most k) }
+  where
+    w : Tried m t (take c sigma) c found places
+    w = subst (λ (n : ℕ). Tried m t (take c sigma) n found places) (length-take-le c sigma h) s
 
 -- the sums of the places found, compared
 pub agrees : {m t : ℕ} {r : Bool} {places sums before own : List ℕ} → Filled (place_sum m places) t before own → Same t own sums r → Agrees m t places sums r

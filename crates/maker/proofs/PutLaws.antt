@@ -6,7 +6,7 @@ use native.Mathlib.Omega.{arith}
 use borrow.Rule.Slice.PartMut.{put_mid}
 use lib.ListN.{length, take, drop, length-append, length-drop, drop_of_length-le}
 use lib.Seq.{length-take-le, paste}
-use Rattle.sheet.specs.declared.Outcome.{Outcome}
+use Rattle.sheet.specs.Number.{Outcome}
 use Rattle.sheet.proofs.VerdictLaws.{equal}
 use Rattle.layout.specs.declared.message.Reading.{Reading}
 use Rattle.frame.specs.Make.{Makes}

@@ -4,23 +4,17 @@ use mathlib.Core.List.{List, [], ◌∷◌, ◌++◌}
 use Prim.Native.Nat.{ℕ, ◌+◌, ◌≤◌, ◌<◌}
 use native.Mathlib.Omega.{arith}
 use lib.ListN.{length, take, length-append}
-use lib.Seq.{length-take-le, length-sets}
+use lib.Seq.{length-take-le}
 use Rattle.line.proofs.LineLaws.{put_nothing, put_then, put_line}
-use Rattle.typed.specs.declared.Typed.{Typed}
+use Rattle.std.proofs.Common.{Option}
+use Rattle.layout.specs.declared.message.Reading.{Reading}
 use Rattle.typed.specs.Says.{Answers}
 use Rattle.typed.proofs.LineLaws.{front_answers}
 use Rattle.maker.specs.declared.Progress.{Progress}
-use Rattle.maker.specs.Making.{lines_of, begun_of, last_of, Gives, GiveAll, none, Holds, Fills, FillsLast}
+use Rattle.maker.specs.Making.{lines_of, begun_of, last_of, Gives, GiveAll, none, Holds, Takes, Fills, FillsLast}
 use Rattle.maker.specs.Work.{Ready, Going, StepReady, emptied, Steps, Keeps}
 use Rattle.maker.proofs.LinesLaws.{line_ends, begun_ends, line_goes_on, begun_goes_on, lines_few, give_one, takes_none, takes_then}
 use Rattle.maker.proofs.KeptLaws.{keeps_front}
-
-pub steps_long : {at next : Progress} {line bytes frames names line' frames' names' : List ℕ} → Steps at line bytes frames names next line' frames' names'
-    → (length frames' ≡ length frames) × (length names' ≡ length names)
-steps_long {at} {frames = frames} {names} s = (
-  ap length s.puts_frames.is ∙ length-sets frames at.frames s.made,
-  ap length s.puts_names.is ∙ length-sets names at.names s.named,
-)
 
 pub steps_none : (at : Progress) (line frames names : List ℕ) → at.held ≤ 63 → Steps at line [] frames names at line frames names
 steps_none at line frames names h =
@@ -82,30 +76,27 @@ pub nothing_held : (line begun : List ℕ) → Holds line 0 (begun_of begun (10 
 nothing_held line begun = rw (begun_ends begun) (record { within = omega arith; front = refl })
 
 -- what is held answers for the line
-pub holds_answers : {line begun : List ℕ} {held : ℕ} (answer : Typed) → Holds line held begun → Answers (take held line) answer → Answers begun answer
+pub holds_answers : {line begun : List ℕ} {held : ℕ} (answer : Option Reading) → Holds line held begun → Answers (take held line) answer → Answers begun answer
 holds_answers {begun = begun} answer h a = front_answers begun answer (subst (λ (l : List ℕ). Answers l answer) h.front a)
 
 -- the promise
 
 -- room for one byte more
-pub step_ready : {count : ℕ} {before start at : Progress} {line bytes frames names line' frames' names' : List ℕ} → Ready count before line frames names
-    → start ≡ emptied before → Steps start line bytes frames names at line' frames' names' → length line' ≡ length line → length bytes < count
-    → StepReady at line' frames' names'
-step_ready r e s l h =
-    let long = steps_long s in
+pub step_ready : {count : ℕ} {before start at : Progress} {line bytes frames names line' frames' names' : List ℕ} → Ready count before
+    → start ≡ emptied before → Steps start line bytes frames names at line' frames' names' → length bytes < count → StepReady at
+step_ready r e s h =
     let lines = ap (λ (p : Progress). p.lines) e in
     let none_yet = ap (λ (p : Progress). p.frames) e in
     let no_names = ap (λ (p : Progress). p.names) e in
     record {
-      for_line = l ∙ r.room.for_line;
-      held = s.few.held;
       lines = omega (arith, s.few.lines, r.lines);
-      for_frames = omega (arith, s.few.frames, r.room.for_frames, r.bytes);
-      for_names = omega (arith, s.few.names, r.room.for_names, r.bytes);
+      for_frames = omega (arith, s.few.frames, r.bytes);
+      for_names = omega (arith, s.few.names, r.bytes);
     }
 
-module _ {count : ℕ} {before start after : Progress} {line bytes frames names line' frames' names' : List ℕ} (r : Ready count before line frames names)
-    (e : start ≡ emptied before) (s : Steps start line bytes frames names after line' frames' names') (l : length bytes ≤ count) where
+module _ {count : ℕ} {before start after : Progress} {line bytes frames names line' frames' names' : List ℕ} (r : Ready count before)
+    (e : start ≡ emptied before) (s : Steps start line bytes frames names after line' frames' names') (l : length bytes ≤ count)
+    (f : length frames ≡ 65536) (n : length names ≡ 65536) where
   from_front : Steps (emptied before) line bytes frames names after line' frames' names'
   from_front = subst (λ (p : Progress). Steps p line bytes frames names after line' frames' names') e s
 
@@ -115,17 +106,17 @@ module _ {count : ℕ} {before start after : Progress} {line bytes frames names 
       record {
         frames = w.made;
         names = w.named;
-        writes_frames = put_line w.puts_frames (omega (arith, w.few.frames, r.room.for_frames, r.bytes));
-        writes_names = put_line w.puts_names (omega (arith, w.few.names, r.room.for_names, r.bytes));
+        writes_frames = put_line w.puts_frames (omega (arith, w.few.frames, f, r.bytes));
+        writes_names = put_line w.puts_names (omega (arith, w.few.names, n, r.bytes));
         takes = w.takes;
       }
 
 -- a line that has begun and is not empty is the last line
-pub last_line : {before start after : Progress} {line frames names line' frames' names' : List ℕ} → Ready 1 before line frames names → start ≡ emptied before
-    → Steps start line (10 ∷ []) frames names after line' frames' names' → (start.held ≡ 0 → ⊥)
-    → FillsLast before line frames names after frames' names'
-last_line {before} {start} {line = line} r e s n =
-    let w = fills r e s (omega arith) in
+pub last_line : {before start after : Progress} {line frames names line' frames' names' : List ℕ} → Ready 1 before → start ≡ emptied before
+    → Steps start line (10 ∷ []) frames names after line' frames' names' → length line ≡ 63 → before.held ≤ 63 → length frames ≡ 65536
+    → length names ≡ 65536 → (start.held ≡ 0 → ⊥) → FillsLast before line frames names after frames' names'
+last_line {before} {start} {line = line} r e s long h f m n =
+    let w = fills r e s (omega arith) f m in
     record {
       frames = w.frames;
       names = w.names;
@@ -137,7 +128,7 @@ last_line {before} {start} {line = line} r e s n =
     last_of_lem : (begun : List ℕ) → Holds line before.held begun → last_of begun ≡ begun ∷ []
     last_of_lem [] o =
         let some : start.held ≡ before.held = ap (λ (p : Progress). p.held) e in
-        absurd (n (omega (arith, ap length o.front, length-take-le before.held line (omega (arith, r.room.for_line, r.held)))))
+        absurd (n (omega (arith, ap length o.front, length-take-le before.held line (omega (arith, long, h)))))
     last_of_lem (b ∷ bs) o = refl
 
 pub no_line : {before start : Progress} (line frames names : List ℕ) → start ≡ emptied before → start.held ≡ 0
@@ -159,15 +150,11 @@ no_line {before} {start} line frames names e h =
         absurd (omega (arith, ap length same))
 
 -- nothing is read yet
-pub going_first : (line : List ℕ) → Going (record { lines = 0; held = 0; frames = 0; names = 0 }) 64000000 line
-going_first line =
-    record {
-      bytes = [];
-      frames = [];
-      names = [];
-      takes = takes_none (record { lines = 0; held = 0; frames = 0; names = 0 }) (record { within = omega arith; front = refl });
-      count = refl;
-    }
+pub going_first : (at : Progress) (line : List ℕ) → at.lines ≡ 0 → at.held ≡ 0 → Going at 64000000 line
+going_first at line l h =
+    let none_held : Holds line at.held [] = rw h (record { within = omega arith; front = refl }) in
+    let takes = takes_none at none_held in
+    record { bytes = []; frames = []; names = []; takes = subst (λ (n : ℕ). Takes n [] [] [] [] at line) l takes; count = refl }
 
 -- what the next bytes give comes after what was given so far
 pub going_on : {at next : Progress} {left left' : ℕ} {line piece frames names line' frames' names' : List ℕ} → Going at left line

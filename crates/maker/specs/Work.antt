@@ -20,20 +20,16 @@ pub record Going (at : Progress) (left : ℕ) (line : List ℕ) : Type 0 where
   pub takes : Takes 0 [] bytes frames names at line
   pub count : length bytes + left ≡ 64000000
 
--- room for what so many bytes give, and numbers for the lines
-pub record Ready (count : ℕ) (before : Progress) (line frames names : List ℕ) : Type 0 where
-  pub room : Room line frames names
-  pub held : before.held ≤ 63
+-- so many bytes at most, and numbers for the lines that they end
+pub record Ready (count : ℕ) (before : Progress) : Type 0 where
   pub bytes : count ≤ 1000
   pub lines : before.lines + count ≤ 64000000
 
--- the same for one byte more: a frame has 32 bytes, a name at most 56, and while it is written the number may take 20
-pub record StepReady (at : Progress) (line frames names : List ℕ) : Type 0 where
-  pub for_line : length line ≡ 63
-  pub held : at.held ≤ 63
+-- a number for the next line, and room for its frame or its name: a frame has 32 bytes, a name at most 56, and while it is written the number may take 20
+pub record StepReady (at : Progress) : Type 0 where
   pub lines : at.lines < 64000000
-  pub for_frames : at.frames + 32 ≤ length frames
-  pub for_names : at.names + 68 ≤ length names
+  pub for_frames : at.frames + 32 ≤ 65536
+  pub for_names : at.names + 68 ≤ 65536
 
 -- nothing stands in the buffers for frames and names
 abbrev pub emptied : Progress → Progress

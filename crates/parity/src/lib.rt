@@ -36,7 +36,7 @@ fn add_parity(word: &mut [u8], g: &[u8], d: usize)
     ensures { WithParity d g.now word.old word.new }
 {
     let n = word.len();
-    let mut space = bits::word_space();
+    let mut space = [0; 1024];
     bits::copy_at(&mut space, 0, word);
     generator::reduce(&mut space[..n], g, d);
     bits::add_at(word, 0, &space[..d]);
@@ -48,7 +48,7 @@ pub fn code_word(code: Code, message: &[u8]) -> [u8; 1024]
     ensures { Encoding code.m code.t code.k message.now (take code.n result) × (1024 ≡ length result) }
 {
     let n = code.n;
-    let mut space = bits::word_space();
+    let mut space = [0; 1024];
     fill_word(code, message, &mut space[..n]);
     space
 }
@@ -59,7 +59,7 @@ pub fn message_change(word: &[u8], at: usize, start: usize, stretch: &[u8]) -> [
     ensures { MessageChange word.now at start stretch.now result }
 {
     let end = at + stretch.len();
-    let mut change = bits::word_space();
+    let mut change = [0; 1024];
     bits::add_at(&mut change, start, stretch);
     bits::add_at(&mut change, start, &word[at..end]);
     change

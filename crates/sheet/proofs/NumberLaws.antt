@@ -9,8 +9,8 @@ use Rattle.sheet.specs.declared.Refusal.{Refusal}
 use Rattle.sheet.specs.declared.Refusal.TheVariants.{FieldSize, NotListed, InputLength, OutputLength, BitAboveOne, NothingNear}
 use Rattle.sheet.specs.declared.Refusal.TheVariants.{RecordContents, FrameLength, PadBit, LeadBits, StretchEnd, NoTrailer, BookSize, NoSuchFrame}
 use Rattle.sheet.specs.declared.Told.{Told}
-use Rattle.sheet.specs.declared.Outcome.{Outcome}
-use Rattle.sheet.specs.declared.Outcome.TheVariants.{Done, Refused}
+use Rattle.sheet.specs.Number.{Outcome}
+use Rattle.std.specs.Prelude.{Ok, Err}
 use Rattle.sheet.specs.Number.{plainly, told_of, outcome_told, number_of, outcome_number, struck}
 
 -- a row of the sheet: a refusal stands there, or none
@@ -93,12 +93,12 @@ number_tells {r} {s} e n = told_tells (plain_but_5 r n ∙ ap plainly e ∙ sym 
 
 -- what is told of an outcome tells it
 pub outcome_tells : (x y : Outcome) → outcome_told x ≡ outcome_told y → x ≡ y
-outcome_tells Done Done e = refl
-outcome_tells Done (Refused r) e = absurd (refusal_not r (sym (ap (λ (t : Told). t.number) e)))
-outcome_tells (Refused r) Done e = absurd (refusal_not r (ap (λ (t : Told). t.number) e))
-outcome_tells (Refused r) (Refused s) e = ap Refused (told_tells e)
+outcome_tells (Ok u) (Ok v) e = refl
+outcome_tells (Ok u) (Err r) e = absurd (refusal_not r (sym (ap (λ (t : Told). t.number) e)))
+outcome_tells (Err r) (Ok u) e = absurd (refusal_not r (ap (λ (t : Told). t.number) e))
+outcome_tells (Err r) (Err s) e = ap Err (told_tells e)
 
 -- an outcome that is not 5 has nothing beside its number either
 pub outcome_plain : (x : Outcome) → outcome_number x ≢ 5 → outcome_told x ≡ plainly (outcome_number x)
-outcome_plain Done n = refl
-outcome_plain (Refused r) n = plain_but_5 r n
+outcome_plain (Ok u) n = refl
+outcome_plain (Err r) n = plain_but_5 r n

@@ -1,12 +1,19 @@
 -- What a caller is told of each refusal and of each outcome: the number, the buffer and the place; and the number that is struck.
 -- docs/SCOPE.md 5.1: "Each refusal has one number and one condition."; "Every other refusal, and every accepted call, gives 0 and 0 there."
-use Rattle.std.specs.Prelude.{ℕ}
+use Rattle.std.specs.Prelude.{ℕ, Result, Ok, Err}
 use Rattle.sheet.specs.declared.Refusal.{Refusal}
 use Rattle.sheet.specs.declared.Refusal.TheVariants.{FieldSize, NotListed, InputLength, OutputLength, BitAboveOne, NothingNear}
 use Rattle.sheet.specs.declared.Refusal.TheVariants.{RecordContents, FrameLength, PadBit, LeadBits, StretchEnd, NoTrailer, BookSize, NoSuchFrame}
 use Rattle.sheet.specs.declared.Told.{Told}
-use Rattle.sheet.specs.declared.Outcome.{Outcome}
-use Rattle.sheet.specs.declared.Outcome.TheVariants.{Done, Refused}
+
+-- what the checks of an operation come to, and what an operation answers: it is done, or it is refused
+abbrev pub Outcome : Type 0
+Outcome = Result (Unit {0}) Refusal
+
+-- the outcome of an answer that has a value where it is done
+abbrev pub outcome_of : {A : Type 0} → Result A Refusal → Outcome
+outcome_of (Ok value) = Ok tt
+outcome_of (Err r) = Err r
 
 -- a number with nothing beside it
 abbrev pub plainly : ℕ → Told
@@ -29,8 +36,8 @@ told_of BookSize = plainly 14
 told_of NoSuchFrame = plainly 15
 
 abbrev pub outcome_told : Outcome → Told
-outcome_told Done = plainly 0
-outcome_told (Refused r) = told_of r
+outcome_told (Ok done) = plainly 0
+outcome_told (Err r) = told_of r
 
 -- the number alone
 abbrev pub number_of : Refusal → ℕ

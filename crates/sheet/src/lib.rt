@@ -1,9 +1,9 @@
-// The refusal sheet: one variant for each number, with its condition; it is given where no earlier check has refused. Also what the checks come to.
+// The refusal sheet: one variant for each number, with its condition; it is given where no earlier check has refused. Also what a caller is told of an answer.
 
 #![tactic(auto)]
 
 ghost use Rattle.std.specs.Prelude.{◌≡◌};
-ghost use Rattle.sheet.specs.Number.{number_of, outcome_number, plainly, told_of, outcome_told};
+ghost use Rattle.sheet.specs.Number.{number_of, outcome_number, plainly, told_of, outcome_told, outcome_of};
 
 #[derive(Clone, Copy)]
 pub enum Refusal {
@@ -39,13 +39,6 @@ pub enum Refusal {
     NoSuchFrame,
 }
 
-// What the checks of an operation come to, and what an operation answers beside its values.
-#[derive(Clone, Copy)]
-pub enum Outcome {
-    Done,
-    Refused(Refusal),
-}
-
 // What a caller is told: the number, 0 where nothing is refused; with 5 the buffer and the place, and 0 and 0 with any other number.
 #[repr(C)]
 #[derive(Clone, Copy)]
@@ -55,19 +48,20 @@ pub struct Told {
     pub place: usize,
 }
 
-pub fn tell_outcome(o: Outcome) -> Told
-    ensures { result ≡ outcome_told o }
+// Told of any answer, whatever value it has where nothing is refused.
+pub fn tell_outcome<T>(answer: &Result<T, Refusal>) -> Told
+    ensures { result ≡ outcome_told (outcome_of answer.now) }
 {
-    match o {
-        Outcome::Done => plain(0),
-        Outcome::Refused(r) => tell(r),
+    match answer {
+        Ok(_) => plain(0),
+        Err(r) => tell(*r),
     }
 }
 
 fn tell(r: Refusal) -> Told
     ensures { result ≡ told_of r }
 {
-    let number = number(r);
+    let number = u32::from(r);
     match r {
         Refusal::BitAboveOne { buffer, place } => Told {
             number,
@@ -89,32 +83,34 @@ fn plain(number: u32) -> Told
 }
 
 // Where only the number is asked for.
-pub fn outcome_number(o: Outcome) -> u32
-    ensures { result ≡ outcome_number o }
+pub fn outcome_number<T>(answer: &Result<T, Refusal>) -> u32
+    ensures { result ≡ outcome_number (outcome_of answer.now) }
 {
-    match o {
-        Outcome::Done => 0,
-        Outcome::Refused(r) => number(r),
+    match answer {
+        Ok(_) => 0,
+        Err(r) => u32::from(*r),
     }
 }
 
-pub fn number(r: Refusal) -> u32
-    ensures { result ≡ number_of r }
-{
-    match r {
-        Refusal::FieldSize => 1,
-        Refusal::NotListed => 2,
-        Refusal::InputLength => 3,
-        Refusal::OutputLength => 4,
-        Refusal::BitAboveOne { .. } => 5,
-        Refusal::NothingNear => 6,
-        Refusal::RecordContents => 7,
-        Refusal::FrameLength => 9,
-        Refusal::PadBit => 10,
-        Refusal::LeadBits => 11,
-        Refusal::StretchEnd => 12,
-        Refusal::NoTrailer => 13,
-        Refusal::BookSize => 14,
-        Refusal::NoSuchFrame => 15,
+impl From<Refusal> for u32 {
+    ghost from_gives = { λ r number. number ≡ number_of r };
+
+    fn from(r: Refusal) -> u32 {
+        match r {
+            Refusal::FieldSize => 1,
+            Refusal::NotListed => 2,
+            Refusal::InputLength => 3,
+            Refusal::OutputLength => 4,
+            Refusal::BitAboveOne { .. } => 5,
+            Refusal::NothingNear => 6,
+            Refusal::RecordContents => 7,
+            Refusal::FrameLength => 9,
+            Refusal::PadBit => 10,
+            Refusal::LeadBits => 11,
+            Refusal::StretchEnd => 12,
+            Refusal::NoTrailer => 13,
+            Refusal::BookSize => 14,
+            Refusal::NoSuchFrame => 15,
+        }
     }
 }

@@ -8,7 +8,7 @@ use native.Mathlib.Omega.{arith}
 use borrow.Author.Tests.{ltb-false}
 use lib.ListN.{length, get_or, set}
 use lib.Seq.{paste, paste-zero, paste-suc, length-paste, drop-paste, set-get_or}
-use Rattle.sheet.specs.declared.Outcome.TheVariants.{Done}
+use Rattle.std.specs.Prelude.{Ok}
 use Rattle.sheet.specs.Verdict.{verdict}
 use Rattle.sheet.proofs.VerdictLaws.{all_pass}
 use Rattle.bits.specs.Differences.{differences}
@@ -33,7 +33,7 @@ use Rattle.kept.proofs.RecordLaws.{sound}
 use Rattle.splice.specs.Splice.{Spliced, splice_checks}
 use Rattle.splice.specs.Work.{SpliceReady, PlaceSpliced, StretchSpliced, plus_places}
 
-pub splice_ready : {c : Code} (stored : Kept) (start : ℕ) (stretch : List ℕ) → Known c → verdict (splice_checks stored start stretch c) ≡ Done
+pub splice_ready : {c : Code} (stored : Kept) (start : ℕ) (stretch : List ℕ) → Known c → verdict (splice_checks stored start stretch c) ≡ Ok tt
     → SpliceReady c stored start stretch
 splice_ready {c} stored start stretch K e =
     let (contents, (end, (bits, _))) = all_pass (splice_checks stored start stretch c) e in

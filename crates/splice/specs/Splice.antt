@@ -2,9 +2,12 @@
 -- stored sums, the sum over the places that changed added, also in a record built by hand; all else is as it was."
 -- 5.1: "With 5 come a buffer and the first place in it, as it was lent, that holds more than 1." 5.2: its checks are 1, 2, 7, 12, 5.
 -- 5.3: "a refused Splice gives back the record it got".
-use Rattle.std.specs.Prelude.{◌≡◌, List, [], ◌∷◌, ℕ, ◌+◌, ◌*◌, ◌≤◌, ◌<◌, length, get_or}
+use Rattle.std.specs.Prelude.{◌≡◌, List, [], ◌∷◌, ℕ, ◌+◌, ◌*◌, ◌≤◌, ◌<◌, length, get_or, Result}
 use Rattle.std.proofs.Math.Seq.{paste}
+use Rattle.std.specs.Result.{result_unwrap_or}
+use Rattle.sheet.specs.declared.Refusal.{Refusal}
 use Rattle.sheet.specs.declared.Refusal.TheVariants.{BitAboveOne, RecordContents, StretchEnd}
+use Rattle.sheet.specs.Number.{outcome_of}
 use Rattle.sheet.specs.Verdict.{Check, ◌⇒◌, Always}
 use Rattle.bits.specs.Bits.{first_above, has_bad_bit, runs_past}
 use Rattle.bits.specs.Differences.{differences}
@@ -13,7 +16,6 @@ use Rattle.codes.specs.declared.Code.{Code}
 use Rattle.codes.specs.Look.{CodePromise}
 use Rattle.codes.specs.Sums.{sum_over}
 use Rattle.kept.specs.declared.Kept.{Kept}
-use Rattle.kept.specs.declared.Answer.{Answer}
 use Rattle.kept.specs.Record.{Whole, bad_record}
 
 abbrev pub splice_checks : Kept → ℕ → List ℕ → Code → List Check
@@ -37,7 +39,7 @@ pub record Spliced (c : Code) (stored : Kept) (start : ℕ) (stretch : List ℕ)
   pub sums_changed : (i : ℕ) → i < c.t → get_or after.sums i 0 ≡ plus_change c stored after.bits i
   pub sums_rest : (i : ℕ) → c.t ≤ i → get_or after.sums i 0 ≡ get_or stored.sums i 0
 
--- where it is refused, the record is the one it got
-abbrev pub Splices : Kept → ℕ → List ℕ → Answer → Type 0
+-- where it is refused there is no new record, and the one that it got stands for it
+abbrev pub Splices : Kept → ℕ → List ℕ → Result Kept Refusal → Type 0
 Splices stored start stretch a =
-    CodePromise stored.m stored.t (splice_checks stored start stretch) (λ c. Always (Spliced c stored start stretch)) stored a.outcome a.record
+    CodePromise stored.m stored.t (splice_checks stored start stretch) (λ c. Always (Spliced c stored start stretch)) stored (outcome_of a) (result_unwrap_or a stored)

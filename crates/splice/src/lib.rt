@@ -7,47 +7,32 @@ ghost use Rattle.codes.specs.Work.{Checked};
 ghost use Rattle.splice.specs.Splice.{Splices, Spliced, splice_checks};
 ghost use Rattle.splice.specs.Work.{SpliceReady, StretchReady, PlaceReady, PlaceSpliced, StretchSpliced};
 
-use codes::{Code, Look};
-use kept::{Answer, Kept};
-use sheet::{Outcome, Refusal};
+use codes::Code;
+use kept::Kept;
+use sheet::Refusal;
 
-// A refused Splice gives back the record it got.
-pub fn splice(stored: Kept, start: usize, stretch: &[u8]) -> Answer
+// The record that it got stays with the caller, who goes on with it where the splice is refused.
+pub fn splice(stored: Kept, start: usize, stretch: &[u8]) -> Result<Kept, Refusal>
     ensures { Splices stored start stretch.now result }
 {
-    let checked = checks(stored, start, stretch);
-    match checked {
-        Look::Passes(code) => Answer {
-            outcome: Outcome::Done,
-            record: spliced(code, stored, start, stretch),
-        },
-        Look::Refused(r) => Answer {
-            outcome: Outcome::Refused(r),
-            record: stored,
-        },
-    }
+    let code = checks(stored, start, stretch)?;
+    Ok(spliced(code, stored, start, stretch))
 }
 
-fn checks(stored: Kept, start: usize, stretch: &[u8]) -> Look
+fn checks(stored: Kept, start: usize, stretch: &[u8]) -> Result<Code, Refusal>
     ensures { Checked stored.m stored.t (splice_checks stored start stretch.now) result }
 {
-    let look = codes::look_up(stored.m, stored.t);
-    let Look::Passes(code) = look else {
-        return look;
-    };
-    let wrong = kept::is_bad(code, stored);
-    if wrong {
-        return Look::Refused(Refusal::RecordContents);
+    let code = codes::look_up(stored.m, stored.t)?;
+    if kept::is_bad(code, stored) {
+        return Err(Refusal::RecordContents);
     }
-    let past = bits::runs_past(start, stretch.len(), code.n);
-    if past {
-        return Look::Refused(Refusal::StretchEnd);
+    if bits::runs_past(start, stretch.len(), code.n) {
+        return Err(Refusal::StretchEnd);
     }
-    let place = bits::first_above_one(stretch);
-    if place < stretch.len() {
-        return Look::Refused(Refusal::BitAboveOne { buffer: 0, place });
+    if let Some(place) = bits::first_above_one(stretch) {
+        return Err(Refusal::BitAboveOne { buffer: 0, place });
     }
-    look
+    Ok(code)
 }
 
 // Past the checks: the powers of a for this m, and the work.
@@ -59,7 +44,7 @@ fn spliced(code: Code, stored: Kept, start: usize, stretch: &[u8]) -> Kept
     let t = stored.t;
     let mut bits = stored.bits;
     let mut sums = stored.sums;
-    let mut powers = field::powers_space();
+    let mut powers = [0; 2046];
     field::fill_powers(code.m, &mut powers);
     splice_stretch(
         code.m, &powers, code.t, start, stretch, &mut bits, &mut sums,
@@ -80,11 +65,8 @@ fn splice_stretch(
     ensures { StretchSpliced m t start stretch.now bits.old sums.old
         bits.new sums.new (length stretch.now) }
 {
-    let mut i = 0;
-    while i < stretch.len() {
-        let b = stretch[i];
-        splice_place(m, powers, t, b, start + i, bits, sums);
-        i += 1;
+    for (i, b) in stretch.iter().enumerate() {
+        splice_place(m, powers, t, *b, start + i, bits, sums);
     }
 }
 

@@ -7,7 +7,7 @@ use native.Mathlib.Nat.{add-zero, zero-mul, one-mul, ne_of_lt}
 use borrow.Author.Count.{below_none, below_more}
 use native.Mathlib.Omega.{arith}
 use lib.ListN.{length, get_or, set, take, replicate, length-set, length-replicate}
-use lib.Seq.{get_or-set_same, get_or-set_other, take-suc, take-suc-set, take-set-le, length-take-le, take_all}
+use lib.Seq.{get_or-take, get_or-set_same, get_or-set_other, take-suc, take-suc-set, take-set-le, length-take-le, take_all}
 use Rattle.bits.specs.Bits.{AreBits}
 use Rattle.bits.proofs.BitLaws.{bit_cases, bits_cons, bits_replicate, bits_take, zeros_at}
 use Rattle.field.specs.Sum.{◌⊕◌}
@@ -151,6 +151,13 @@ listing_done {word} {i = i} s h l =
       same = λ {m} L j. s.same L j ∙ ap (sum_of m j) (take_all i word h);
     }
 
+-- places that are below n are so in the front of their list
+pub front_below : {n count : ℕ} (places : List ℕ) → count ≤ length places → ((i : ℕ) → i < count → get_or places i 0 < n)
+    → (i : ℕ) → i < length (take count places) → get_or (take count places) i 0 < n
+front_below {n} {count} places h b i k =
+    let l : i < count = omega (arith, length-take-le count places h) in
+    rw (get_or-take count places i 0 l) (b i l)
+
 -- the sums of the list are those of the word
 pub ones_summed : {m t count : ℕ} {word places first after : List ℕ} → IsField m → Ones word count places
     → Filled (place_sum m (take count places)) t first after → Filled (word_sum m word) t first after
@@ -175,19 +182,14 @@ placing_next {m} {t} {x} {i} {places} {before} {middle} L s h e u =
           ∙ sum_over_snoc m (2 * j + 1) (get_or places i 0) (take i places))));
     }
 
-pub placing_done : {m t i count : ℕ} {places first before after : List ℕ} → Filled nothing t first before
-    → Placing m t places before after i → i ≡ count → Filled (place_sum m (take count places)) t first after
-placing_done {m} {places = places} c s e = fill_after c (fill_as s.filled (λ j k. ap (λ n. sum_over m (2 * j + 1) (take n places)) e))
+pub placing_done : {m t i : ℕ} {places first before after : List ℕ} → Filled nothing t first before
+    → Placing m t places before after i → length places ≤ i → Filled (place_sum m places) t first after
+placing_done {m} {i = i} {places} c s h = fill_after c (fill_as s.filled (λ j k. ap (sum_over m (2 * j + 1)) (take_all i places h)))
 
--- the length of the room that space gives
-pub room_long : {xs : List ℕ} → xs ≡ replicate 255 0 → length xs ≡ 255
-room_long e = ap length e ∙ length-replicate {A = ℕ} 255 0
+-- room for the odd sums of every code, t at most 255
+pub room_long : length (replicate {A = ℕ} 255 0) ≡ 255
+room_long = length-replicate {A = ℕ} 255 0
 
 -- the sums of a word in room that was clear
-pub sums_in_room : {m t : ℕ} {word room sums : List ℕ} → room ≡ replicate 255 0 → Filled (word_sum m word) t room sums → OddSums m t word sums
-sums_in_room {room = room} e s =
-    record {
-      long = sym (s.same ∙ room_long e);
-      holds = s.holds;
-      rest = λ i h. s.rest i h ∙ ap (λ (xs : List ℕ). get_or xs i 0) e ∙ zeros_at 255 i;
-    }
+pub sums_in_room : {m t : ℕ} {word sums : List ℕ} → Filled (word_sum m word) t (replicate 255 0) sums → OddSums m t word sums
+sums_in_room s = record { long = sym (s.same ∙ room_long); holds = s.holds; rest = λ i h. s.rest i h ∙ zeros_at 255 i }

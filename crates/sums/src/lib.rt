@@ -21,33 +21,16 @@ pub fn add_place(m: usize, powers: &[u16], p: usize, t: usize, sums: &mut [u16])
     walks::add_walk(m, powers, p, step, t, sums);
 }
 
-// The first t entries become the odd sums of the first `count` places of the list.
-pub fn place_sums(
-    m: usize,
-    powers: &[u16],
-    t: usize,
-    places: &[u16],
-    count: usize,
-    sums: &mut [u16],
-)
-    requires { (IsField m) × (Powers m powers.now) × (count ≤ length places.now)
-        × ((i : ℕ) → i < count → get_or places.now i 0 < n_of m) × (t ≤ length sums.old) }
-    ensures { Filled (place_sum m (take count places.now)) t sums.old sums.new }
+// The first t entries become the odd sums of the places.
+pub fn place_sums(m: usize, powers: &[u16], t: usize, places: &[u16], sums: &mut [u16])
+    requires { (IsField m) × (Powers m powers.now) × ((i : ℕ) → i < length places.now → get_or places.now i 0 < n_of m)
+        × (t ≤ length sums.old) }
+    ensures { Filled (place_sum m places.now) t sums.old sums.new }
 {
-    entries::clear_first(t, sums);
-    let mut i = 0;
-    while i < count {
-        let p = places[i] as usize;
-        add_place(m, powers, p, t, sums);
-        i += 1;
+    sums[..t].fill(0);
+    for place in places {
+        add_place(m, powers, usize::from(*place), t, sums);
     }
-}
-
-// Room for the places of a word, n at most 1,023.
-fn places_space() -> [u16; 1023]
-    ensures { 1023 ≡ length result }
-{
-    [0; 1023]
 }
 
 // Writes down the places of a word that hold 1, and answers how many there are. It does not branch on the bits, since a processor cannot predict them.
@@ -56,11 +39,9 @@ fn list_ones(word: &[u8], places: &mut [u16]) -> usize
     ensures { Ones word.now result places.new }
 {
     let mut count = 0;
-    let mut i = 0;
-    while i < word.len() {
+    for (i, bit) in word.iter().enumerate() {
         places[count] = i as u16;
-        count += word[i] as usize;
-        i += 1;
+        count += usize::from(*bit);
     }
     count
 }
@@ -70,16 +51,9 @@ fn word_sums(m: usize, powers: &[u16], t: usize, word: &[u8], sums: &mut [u16])
     requires { (IsField m) × (Powers m powers.now) × (AreBits word.now) × (length word.now ≡ n_of m) × (t ≤ length sums.old) }
     ensures { Filled (word_sum m word.now) t sums.old sums.new }
 {
-    let mut places = places_space();
+    let mut places = [0; 1023];
     let count = list_ones(word, &mut places);
-    place_sums(m, powers, t, &places, count, sums);
-}
-
-// Room for the odd sums of every code, t at most 255.
-pub fn space() -> [u16; 255]
-    ensures { result ≡ replicate 255 0 }
-{
-    [0; 255]
+    place_sums(m, powers, t, &places[..count], sums);
 }
 
 // S_1, S_3, .. S_(2t-1) of a word, in room of their own, then zeros.
@@ -87,7 +61,7 @@ pub fn odd_sums(m: usize, t: usize, powers: &[u16], word: &[u8]) -> [u16; 255]
     requires { IsField m × Powers m powers.now × AreBits word.now × (length word.now ≡ n_of m) × (t ≤ 255) }
     ensures { OddSums m t word.now result }
 {
-    let mut sums = space();
+    let mut sums = [0; 255];
     word_sums(m, powers, t, word, &mut sums);
     sums
 }

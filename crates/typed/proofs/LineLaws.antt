@@ -8,8 +8,7 @@ use lib.ListN.{length, take, length-append}
 use lib.Seq.{length-take-le, take_all}
 use Rattle.layout.specs.declared.message.Reading.{Reading}
 use Rattle.layout.proofs.ReadingLaws.{reading_tells}
-use Rattle.typed.specs.declared.Typed.{Typed}
-use Rattle.typed.specs.declared.Typed.TheVariants.{Said, Nothing}
+use Rattle.std.proofs.Common.{Option, Some, None}
 use Rattle.typed.specs.Says.{SaysPoll, SaysCounter, Says, Answers}
 use Rattle.typed.proofs.SplitLaws.{same_parts}
 
@@ -35,10 +34,10 @@ says_short line reading p =
       q.after.few,
     )
 
-pub front_answers : (line : List ℕ) (answer : Typed) → Answers (take 63 line) answer → Answers line answer
+pub front_answers : (line : List ℕ) (answer : Option Reading) → Answers (take 63 line) answer → Answers line answer
 front_answers line answer a = pick (dec_le (length line) 63) answer a
   where
-    pick : Dec (length line ≤ 63) → (x : Typed) → Answers (take 63 line) x → Answers line x
+    pick : Dec (length line ≤ 63) → (x : Option Reading) → Answers (take 63 line) x → Answers line x
     pick (yes h) x b = subst (λ (l : List ℕ). Answers l x) (take_all 63 line h) b
-    pick (no h) (Said reading) b = absurd (omega (arith, says_short (take 63 line) reading b, length-take-le 63 line (omega arith)))
-    pick (no h) Nothing b = λ reading p. omega (arith, says_short line reading p)
+    pick (no h) (Some reading) b = absurd (omega (arith, says_short (take 63 line) reading b, length-take-le 63 line (omega arith)))
+    pick (no h) None b = λ reading p. omega (arith, says_short line reading p)

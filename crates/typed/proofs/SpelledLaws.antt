@@ -6,10 +6,8 @@ use native.Mathlib.Numerals.{add-one}
 use native.Mathlib.Omega.{arith}
 use lib.ListN.{length, get_or, drop, drop_of_length-le}
 use lib.Seq.{drop-cons}
-use Rattle.typed.specs.declared.Value.{Value}
-use Rattle.typed.specs.declared.Value.TheVariants.{Is, Nothing}
-use Rattle.typed.specs.Says.{Digits, value_from}
-use Rattle.typed.specs.Work.{Spelled, SpelledTo, WithDigit, AnswersSpelled, AnswersNumber}
+use Rattle.typed.specs.Says.{Digits, value_from, Number}
+use Rattle.typed.specs.Work.{SpelledTo, WithDigit}
 
 pub value_nil : (v : ℕ) → value_from v [] ≡ v
 unfolding value_from
@@ -52,22 +50,19 @@ module _ (text : List ℕ) (i v : ℕ) (h : i < length text) (s : SpelledTo text
         rest = λ p. (rw next_digits at (s.rest p)).2;
       }
 
-  pub spelled_stuck : {most : ℕ} → ((n : ℕ) → WithDigit v (get_or text i 0) most n → ⊥) → (n : ℕ) → Spelled text most n → ⊥
+  pub spelled_stuck : {most : ℕ} → ((n : ℕ) → WithDigit v (get_or text i 0) most n → ⊥) → (n : ℕ) → Number text (most + 1) n → ⊥
   spelled_stuck f n p =
       let d = rw next_digits at (s.rest p.digits) in
       let least = value_least (10 * v + (get_or text i 0 - 48)) (drop (i + 1) text) in
       f (10 * v + (get_or text i 0 - 48)) (record { from = d.0; to = d.1; is = refl; small = omega (arith, least, next, s.value, p.value, p.small) })
 
-pub spelled_all : (text : List ℕ) (i v : ℕ) {most : ℕ} → length text ≤ i → SpelledTo text i v → v ≤ most → Spelled text most v
-spelled_all text i v h s l =
+pub spelled_all : (text : List ℕ) (i v : ℕ) {below : ℕ} → length text ≤ i → SpelledTo text i v → v < below → 1 ≤ length text → length text ≤ 20
+    → Number text below v
+spelled_all text i v h s l some few =
     record {
+      some = some;
+      few = few;
       digits = s.all (rw (drop_of_length-le text h) tt);
       value = sym (value_nil v) ∙ rw (drop_of_length-le text h) at s.value;
       small = l;
     }
-
--- 1 to 20 of them
-pub number_of : (text : List ℕ) (most : ℕ) (answer : Value) → 1 ≤ length text → length text ≤ 20 → AnswersSpelled text most answer
-    → AnswersNumber text (most + 1) answer
-number_of text most (Is n) h l p = record { some = h; few = l; digits = p.digits; value = p.value; small = omega (arith, p.small) }
-number_of text most Nothing h l p = λ n q. p n (record { digits = q.digits; value = q.value; small = omega (arith, q.small) })

@@ -1,8 +1,6 @@
 -- A typed line. docs/SCOPE.md 8: "A line says a reading if it is three decimal numbers with one blank between them and nothing else".
-use Rattle.std.specs.Prelude.{◌≡◌, List, [], ◌∷◌, ◌++◌, ℕ, ◌+◌, ◌-◌, ◌*◌, ◌^◌, ◌≤◌, ◌<◌, length}
+use Rattle.std.specs.Prelude.{◌≡◌, List, [], ◌∷◌, ◌++◌, ℕ, ◌+◌, ◌-◌, ◌*◌, ◌^◌, ◌≤◌, ◌<◌, length, Option, Some, None}
 use Rattle.layout.specs.declared.message.Reading.{Reading}
-use Rattle.typed.specs.declared.Typed.{Typed}
-use Rattle.typed.specs.declared.Typed.TheVariants.{Said, Nothing}
 
 -- `0` to `9` in ASCII
 abbrev pub Digits : List ℕ → Type 0
@@ -42,6 +40,6 @@ abbrev pub Says : Reading → List ℕ → Type 0
 Says reading line = NumberThen line (2 ^ 16) reading.house (SaysPoll reading)
 
 -- the reading that the line says, or nothing exactly if it says none
-abbrev pub Answers : List ℕ → Typed → Type 0
-Answers line (Said reading) = Says reading line
-Answers line Nothing = (reading : Reading) → Says reading line → ⊥
+abbrev pub Answers : List ℕ → Option Reading → Type 0
+Answers line (Some reading) = Says reading line
+Answers line None = (reading : Reading) → Says reading line → ⊥

@@ -228,12 +228,12 @@ walk_done {m} {n} {one} {c} {d} {e} {count} from step {before} {middle} {after} 
         (walked_on L from one e (one * (i - c)) c (i - c) s.here refl ∙ ap (λ (k : ℕ). power m a (from + one * k)) z ∙ near i)
 
 -- from the logarithm of s on: s times each power
-pub multiples_added : {m s t : ℕ} {logs before after : List ℕ} (step : ℕ) → IsField m → Logarithm m logs s
-    → Filled (plus_walk m (get_or logs s 0) step before) t before after → Filled (plus_multiple m s step before) t before after
-multiples_added {m} {s} {logs = logs} {before} step L l u =
+pub multiples_added : {m s t from : ℕ} {logs before after : List ℕ} (step : ℕ) → IsField m → Logarithm m logs s → from ≡ get_or logs s 0
+    → Filled (plus_walk m from step before) t before after → Filled (plus_multiple m s step before) t before after
+multiples_added {m} {s} {from = from} {logs} {before} step L l e u =
     fill_as u
     (λ i h. ap (λ z. get_or before i 0 ⊕ z)
-    (power-add L a (get_or logs s 0) (step * i) ∙ ap (λ (z : ℕ). z ⊗⟨ m ⟩ power m a (step * i)) l.is))
+    (power-add L a from (step * i) ∙ ap (λ (z : ℕ). z ⊗⟨ m ⟩ power m a (step * i)) (ap (power m a) e ∙ l.is)))
 
 -- 0 has no logarithm, and its multiples add nothing
 pub multiples_skipped : {s : ℕ} (m step t : ℕ) (before : List ℕ) → s ≡ 0 → Filled (plus_multiple m s step before) t before before

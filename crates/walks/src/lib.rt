@@ -23,7 +23,7 @@ pub fn add_multiples(
     ensures { Filled (plus_multiple m s step entries.old) count entries.old entries.new }
 {
     if s != 0 {
-        let from = logs[s as usize] as usize;
+        let from = usize::from(logs[usize::from(s)]);
         add_walk(m, powers, from, step, count, entries);
     }
 }
@@ -46,12 +46,12 @@ pub fn add_walk(
     let two = field::around(n, 2 * one);
     let three = field::around(n, two + one);
     let four = field::around(n, 2 * two);
-    let mut j = count % 4;
-    let mut e = add_first(m, powers, from, one, j, entries);
-    while j < count {
+    let first = count % 4;
+    let mut e = add_first(m, powers, from, one, first, entries);
+    for i in 0..count / 4 {
+        let j = first + 4 * i;
         add_four(powers, e, e + one, e + two, e + three, j, entries);
         e = field::around(n, e + four);
-        j += 4;
     }
 }
 
@@ -69,11 +69,9 @@ fn add_first(
 {
     let n = field::n_of(m);
     let mut e = from;
-    let mut j = 0;
-    while j < count {
+    for j in 0..count {
         add_at(powers, e, j, entries);
         e = field::around(n, e + step);
-        j += 1;
     }
     e
 }
@@ -95,6 +93,5 @@ fn add_at(powers: &[u16], e: usize, j: usize, entries: &mut [u16])
     requires { (e < length powers.now) × (j < length entries.old) }
     ensures { entries.new ≡ plus_at entries.old j (get_or powers.now e 0) }
 {
-    let before = entries[j];
-    entries[j] = before ^ powers[e];
+    entries[j] ^= powers[e];
 }

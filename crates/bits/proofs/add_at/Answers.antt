@@ -30,10 +30,10 @@ pub loop-i-init : goal.loop-i-init
 loop-i-init c = record { within = omega arith; room = c.requires; same = omega arith; is = sym (added_at_none _ _) }
 
 pub loop-i-preserved : goal.loop-i-preserved
-loop-i-preserved c = next c.loop-i.invariant c.loop-i-test.true
+loop-i-preserved c = next c.loop-i.invariant (omega arith)
 
 pub shape_of-dst : goal.shape_of-dst
 shape_of-dst c = c.loop-i.invariant.same
 
 pub returns : goal.returns
-returns c = all c.loop-i.invariant c.loop-i-test.false
+returns c = all c.loop-i.invariant (omega arith)

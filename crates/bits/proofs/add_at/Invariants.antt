@@ -2,7 +2,7 @@
 use lib.ListN.{length, take}
 use mathlib.Core.Path.{◌≡◌}
 use mathlib.Core.List.{List}
-use Prim.Native.Nat.{ℕ, ◌+◌, ◌-◌, ◌≤◌}
+use Prim.Native.Nat.{ℕ, ◌+◌, ◌≤◌}
 use Rattle.bits.specs.Work.{added_at}
 use Rattle.bits.proofs.add_at.Given as goal
 
@@ -14,6 +14,3 @@ pub record Adding (first : List ℕ) (at : ℕ) (src dst : List ℕ) (i : ℕ) :
 
 abbrev pub invariant-loop-i : goal.invariant-loop-i
 invariant-loop-i l = Adding l.initial.dst l.at l.src l.dst l.i
-
-abbrev pub decreases-loop-i : goal.decreases-loop-i
-decreases-loop-i l = length l.src - l.i

@@ -1,33 +1,43 @@
-use mathlib.Core.Path.{◌≡◌, ◌∙◌, sym}
-use mathlib.Core.List.{List}
-use Prim.Native.Nat.{ℕ, suc, ◌+◌, ◌≤◌, ◌<◌}
-use native.Mathlib.Nat.{zero-add, add-zero}
-use native.Mathlib.Numerals.{add-one}
+-- The first place above 1 is std's first place at which the test passes.
+use mathlib.Core.Path.{◌≡◌, refl, sym}
+use mathlib.Core.Bool.{Bool, true, false, cond}
+use mathlib.Core.List.{List, ◌∷◌}
+use Prim.Native.Nat.{ℕ, ◌+◌, ◌≤◌}
+use native.Mathlib.Nat.{lt_of_not-le}
+use native.Mathlib.Decide.{dec_le}
 use native.Mathlib.Omega.{arith}
-use lib.ListN.{length, get_or, drop, drop_of_length-le}
-use lib.Seq.{drop-cons}
-use Rattle.bits.specs.Bits.{first_above}
+use borrow.Author.Tests.{lt-ltb, le-ltb}
+use Rattle.std.proofs.Common.{rules, tests, Option, Some, None}
+use Rattle.std.specs.Prelude.{ltb, MatchOption}
+use Rattle.std.specs.List.{position, position_or_len}
+use Rattle.std.proofs.lemmas.Iterator.{YieldsList-from_slice}
+use Rattle.std.proofs.lemmas.Iterator.Search.{position_from_yields_List}
+use Rattle.std.proofs.lemmas.List.Recursion.{is_position_or_len}
+use Rattle.bits.specs.Bits.{first_above, has_bad_bit}
 use Rattle.bits.proofs.BitLaws.{first_above-nil, first_above_bit, first_above_above}
 use Rattle.bits.proofs.first_above_one.Goals as goal
 
-here : (s : List ℕ) (i : ℕ) → i < length s → first_above s ≡ i + first_above (drop i s) → 1 < get_or s i 0 → i ≡ first_above s
-here s i h e k = sym (e ∙ rw (drop-cons s i 0 h, first_above_above (drop (suc i) s) k) (add-zero i))
+turn : (x : ℕ) (xs : List ℕ) → first_above (x ∷ xs) ≡ cond (ltb 1 x) 0 (1 + first_above xs)
+turn x xs = pick (dec_le x 1)
+  where
+    pick : Dec (x ≤ 1) → first_above (x ∷ xs) ≡ cond (ltb 1 x) 0 (1 + first_above xs)
+    pick (yes h) = rw (first_above_bit xs h, le-ltb 1 x h) (omega arith)
+    pick (no h) = rw (first_above_above xs (lt_of_not-le h), lt-ltb 1 x (lt_of_not-le h)) refl
 
-further : (s : List ℕ) (i : ℕ) → i < length s → first_above s ≡ i + first_above (drop i s) → get_or s i 0 ≤ 1
-    → first_above s ≡ i + 1 + first_above (drop (i + 1) s)
-further s i h e k = e ∙ rw (drop-cons s i 0 h, first_above_bit (drop (suc i) s) k, add-one i) (omega arith)
-
-none : (s : List ℕ) (i : ℕ) → length s ≤ i → first_above s ≡ i + first_above (drop i s) → i ≡ first_above s
-none s i k e = sym (e ∙ rw (drop_of_length-le s k, first_above-nil) (add-zero i))
-
-pub loop-i-init : goal.loop-i-init
-loop-i-init c = (omega arith, sym (zero-add _))
-
-pub returns-then-s-i-gt1 : goal.returns-then-s-i-gt1
-returns-then-s-i-gt1 c = let v = c.loop-i.invariant in here _ _ c.loop-i-test.true v.1 c.if-s-i-gt1.true
-
-pub loop-i-preserved : goal.loop-i-preserved
-loop-i-preserved c = let v = c.loop-i.invariant in (omega arith, further _ _ c.loop-i-test.true v.1 c.if-s-i-gt1.false)
+-- what std's search tells
+told : (xs : List ℕ) {r : Option ℕ} → r ≡ position (λ (x : ℕ). ltb 1 x) xs
+    → MatchOption r (has_bad_bit xs ≡ false) (λ place. (has_bad_bit xs ≡ true) × (place ≡ first_above xs))
+told xs e =
+    let at : position_or_len (λ (x : ℕ). ltb 1 x) xs ≡ first_above xs = sym (is_position_or_len first_above (λ x. ltb 1 x) first_above-nil turn xs) in
+    rw (e, at) (pick (has_bad_bit xs) refl)
+  where
+    pick : (b : Bool) → has_bad_bit xs ≡ b
+        → MatchOption (cond b (Some (first_above xs)) None) (has_bad_bit xs ≡ false) (λ place. (has_bad_bit xs ≡ true) × (place ≡ first_above xs))
+    pick true e = (e, refl)
+    pick false e = e
 
 pub returns : goal.returns
-returns c = let v = c.loop-i.invariant in none _ _ c.loop-i-test.false v.1
+returns c =
+    told c.args.s.now
+    (position_from_yields_List (λ (x : ℕ). ltb 1 x) _ _ c.position.result c.position.ensures.ran (YieldsList-from_slice c.args.s.now cc)
+    (λ x b q k. search (rules, tests)))

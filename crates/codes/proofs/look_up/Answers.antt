@@ -9,7 +9,7 @@ use Rattle.field.specs.Power.{n_of}
 use Rattle.codes.specs.Table.{first, ks}
 use Rattle.codes.specs.Look.{row_from, row_of}
 use Rattle.codes.specs.Work.{no_more, Checked}
-use Rattle.codes.specs.declared.Look.TheVariants.{Passes, Refused}
+use Rattle.std.specs.Prelude.{Ok, Err}
 use Rattle.sheet.specs.declared.Refusal.TheVariants.{NotListed}
 use mathlib.Core.List.{List}
 use Rattle.codes.proofs.LookLaws.{rows_within, row_of_from, k_of_row}
@@ -34,11 +34,11 @@ within m from to L p q =
 
 -- the code that is answered is the one of (m, t)
 found : (m t row to n : ℕ) → IsField m → (row ≡ row_of m t) × (to ≡ first (suc m)) → row < to → (xs : List ℕ) → xs ≡ ks → n ≡ n_of m
-    → Checked m t no_more (Passes (record { m = m; t = t; row = row; n = n; k = get_or xs row 0 }))
+    → Checked m t no_more (Ok (record { m = m; t = t; row = row; n = n; k = get_or xs row 0 }))
 found m t row to n L e h xs p q =
     rw (p, e.0, q, ← (k_of_row m t)) (look_listed (m_within L) (t_listed m t (omega (arith, e.0, e.1))))
 
-missing : (m t row to : ℕ) → IsField m → (row ≡ row_of m t) × (to ≡ first (suc m)) → to ≤ row → Checked m t no_more (Refused NotListed)
+missing : (m t row to : ℕ) → IsField m → (row ≡ row_of m t) × (to ≡ first (suc m)) → to ≤ row → Checked m t no_more (Err NotListed)
 missing m t row to L e h = look_unlisted (m_within L) (t_unlisted m t (omega (arith, e.0, e.1)))
 
 pub returns-then-m-lt3 : goal.returns-then-m-lt3

@@ -2,5 +2,5 @@
 use Rattle.codes.proofs.CheckLaws.{passed_known}
 use Rattle.every_code.proofs.print_if_listed.Goals as goal
 
-pub print_code-requires : goal.print_code-requires
-print_code-requires c = passed_known c.in-Passes.is c.look_up-look.ensures
+pub invariant_of-print_code : goal.invariant_of-print_code
+invariant_of-print_code c = record { known = passed_known c.in-Ok.is c.look_up.ensures }

@@ -1,7 +1,7 @@
 -- The loop keeps: for each j below i, place a^j holds j. A later power is another place, since powers below n are distinct.
 use mathlib.Core.Path.{◌≡◌}
 use mathlib.Core.List.{List}
-use Prim.Native.Nat.{ℕ, ◌-◌, ◌^◌, ◌≤◌, ◌<◌}
+use Prim.Native.Nat.{ℕ, ◌^◌, ◌≤◌, ◌<◌}
 use lib.ListN.{length, get_or}
 use Rattle.field.specs.Product.{IsField}
 use Rattle.field.specs.Power.{a, n_of, power}
@@ -19,6 +19,3 @@ pub record Filling (m n : ℕ) (powers first logs : List ℕ) (i : ℕ) : Type 0
 
 abbrev pub invariant-loop-i : goal.invariant-loop-i
 invariant-loop-i l = Filling l.m l.n l.powers l.initial.logs l.logs l.i
-
-abbrev pub decreases-loop-i : goal.decreases-loop-i
-decreases-loop-i l = l.n - l.i

@@ -100,20 +100,17 @@ pub offset_bounds-powers-n : goal.offset_bounds-powers-n
 offset_bounds-powers-n c = let s = sizes c.loop-i.invariant.listed in omega (arith, c.loop-i.invariant.is_n)
 
 pub bounds-powers-n : goal.bounds-powers-n
-bounds-powers-n c = omega (arith, fits_middle c.loop-i.invariant c.loop-i-test.true)
+bounds-powers-n c = omega (arith, fits_middle c.loop-i.invariant (omega arith))
 
 pub times_a-x-requires : goal.times_a-x-requires
 times_a-x-requires c =
     let f = c.loop-i.invariant in (f.listed, f.is_polynomial, rw f.here (power_bound f.listed _ _))
 
-pub overflow_add-i : goal.overflow_add-i
-overflow_add-i c = let s = sizes c.loop-i.invariant.listed in omega arith
-
 pub loop-i-preserved : goal.loop-i-preserved
-loop-i-preserved c = next c.loop-i.invariant c.loop-i-test.true c.times_a-x.ensures
+loop-i-preserved c = next c.loop-i.invariant (omega arith) c.times_a-x.ensures
 
 pub shape_of-powers : goal.shape_of-powers
 shape_of-powers c = c.loop-i.invariant.same
 
 pub returns : goal.returns
-returns c = all_filled c.loop-i.invariant c.loop-i-test.false
+returns c = all_filled c.loop-i.invariant (omega arith)

@@ -1,7 +1,7 @@
 -- The loop keeps: x is a^i, and the places 0 to i - 1 and n to n + i - 1 hold their powers.
 use mathlib.Core.Path.{◌≡◌}
 use mathlib.Core.List.{List}
-use Prim.Native.Nat.{ℕ, ◌+◌, ◌-◌, ◌*◌, ◌≤◌, ◌<◌}
+use Prim.Native.Nat.{ℕ, ◌+◌, ◌*◌, ◌≤◌, ◌<◌}
 use lib.ListN.{length, get_or}
 use Rattle.field.specs.Product.{IsField, polynomial}
 use Rattle.field.specs.Power.{a, n_of, power}
@@ -20,6 +20,3 @@ pub record Filling (m p n : ℕ) (first powers : List ℕ) (x i : ℕ) : Type 0 
 
 abbrev pub invariant-loop-i : goal.invariant-loop-i
 invariant-loop-i l = Filling l.m l.p l.n l.initial.powers l.powers l.x l.i
-
-abbrev pub decreases-loop-i : goal.decreases-loop-i
-decreases-loop-i l = l.n - l.i

@@ -13,10 +13,10 @@ use Rattle.field.proofs.PowerLaws.{power-add}
 use Rattle.field.proofs.Exponents.{Logarithm, logarithm}
 use Rattle.field.proofs.product.Goals as goal
 
-multiplied : {m x y : ℕ} {powers logs : List ℕ} → Tables m powers logs → Logarithm m logs x → Logarithm m logs y
-    → get_or powers (get_or logs x 0 + get_or logs y 0) 0 ≡ x ⊗⟨ m ⟩ y
-multiplied {m} {x} {y} {logs = logs} t p q =
-    t.powers_hold.holds _ (omega arith) ∙ power-add t.listed a _ _
+multiplied : {m x y log_x log_y : ℕ} {powers logs : List ℕ} → Tables m powers logs → Logarithm m logs x → Logarithm m logs y
+    → log_x ≡ get_or logs x 0 → log_y ≡ get_or logs y 0 → get_or powers (log_x + log_y) 0 ≡ x ⊗⟨ m ⟩ y
+multiplied {m} {powers = powers} t p q e f =
+    ap₂ (λ (u v : ℕ). get_or powers (u + v) 0) e f ∙ t.powers_hold.holds _ (omega arith) ∙ power-add t.listed a _ _
     ∙ ap₂ (λ (u v : ℕ). u ⊗⟨ m ⟩ v) p.is q.is
 
 pub returns-then-x-eq0 : goal.returns-then-x-eq0
@@ -41,8 +41,11 @@ pub bounds-powers-log_x : goal.bounds-powers-log_x
 bounds-powers-log_x c =
     let p = logarithm c.requires.0 c.requires.1 c.if-x-eq0.false in let q = logarithm c.requires.0 c.requires.2 c.if-y-eq0.false in
     let t = c.requires.0.powers_hold.long in
+    let e = (rw c.from.ensures at c.from-log_x.ensures) in
+    let f = (rw c.from-2.ensures at c.from-log_y.ensures) in
     omega arith
 
 pub returns : goal.returns
 returns c =
     multiplied c.requires.0 (logarithm c.requires.0 c.requires.1 c.if-x-eq0.false) (logarithm c.requires.0 c.requires.2 c.if-y-eq0.false)
+    (rw c.from.ensures at c.from-log_x.ensures) (rw c.from-2.ensures at c.from-log_y.ensures)

@@ -21,13 +21,13 @@ over_one m x h k = omega (arith, over_lt m k, (le-div_iff_mul-le {x = 1} {y = 2 
 pub overflow_mul-twice : goal.overflow_mul-twice
 overflow_mul-twice c = let s = sizes c.requires.0 in omega arith
 
-pub returns-then-twice-n : goal.returns-then-twice-n
+pub returns-then-from-n : goal.returns-then-from-n
 unfolding ◌⊕◌
-returns-then-twice-n c =
+returns-then-from-n c =
     let s = sizes c.requires.0 in
     ap (λ (z : ℕ). 2 * c.args.x ⊕ z) (sym (one-mul c.args.p))
     ∙ shifted_by c.args.m c.args.p c.args.x
-    (over_one c.args.m c.args.x (omega (arith, c.if-twice-n.true)) c.requires.2)
+    (over_one c.args.m c.args.x (omega (arith, c.if-from-n.true, c.from.ensures)) c.requires.2)
     ∙ ap (λ (p : ℕ). shifted c.args.m p c.args.x) c.requires.1
     ∙ times_a c.requires.0 _ c.requires.2
 
@@ -35,6 +35,6 @@ pub returns : goal.returns
 returns c =
     let s = sizes c.requires.0 in
     sym (ap (λ (z : ℕ). 2 * c.args.x ⊕ z) (zero-mul c.args.p) ∙ sum-zero _)
-    ∙ shifted_by c.args.m c.args.p c.args.x (div-eq_of_lt (omega (arith, c.if-twice-n.false)))
+    ∙ shifted_by c.args.m c.args.p c.args.x (div-eq_of_lt (omega (arith, c.if-from-n.false, c.from.ensures)))
     ∙ ap (λ (p : ℕ). shifted c.args.m p c.args.x) c.requires.1
     ∙ times_a c.requires.0 _ c.requires.2

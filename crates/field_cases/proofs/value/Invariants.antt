@@ -1,10 +1,7 @@
 -- The loop keeps the value so far below 2^m.
-use Prim.Native.Nat.{◌^◌, ◌<◌, ◌≤◌}
+use Prim.Native.Nat.{◌^◌, ◌<◌}
 use Rattle.field.specs.Tables.{Tables}
 use Rattle.field_cases.proofs.value.Given as goal
 
 abbrev pub invariant-loop-i : goal.invariant-loop-i
-invariant-loop-i l = Tables l.m l.powers l.logs × l.x < 2 ^ l.m × l.sum < 2 ^ l.m × l.i ≤ 16
-
-abbrev pub decreases-loop-i : goal.decreases-loop-i
-decreases-loop-i l = l.i
+invariant-loop-i l = Tables l.m l.powers l.logs × l.x < 2 ^ l.m × l.sum < 2 ^ l.m

@@ -13,11 +13,11 @@ add_tap-requires c = let v = c.loop-e.invariant in (v.bits, c.requires.1, sym v.
 
 pub loop-e-preserved : goal.loop-e-preserved
 loop-e-preserved c =
-    taps_next c.loop-e.invariant c.loop-e-test.true c.add_tap.ensures c.add_tap.auto.g
+    taps_next c.loop-e.invariant (omega arith) c.add_tap.ensures c.add_tap.auto.g
 
 pub shape_of-g : goal.shape_of-g
 shape_of-g c =
     c.loop-e.invariant.same ∙ sym (ap length c.requires.0 ∙ length-replicate {A = ℕ} (length c.args.old.now) 0)
 
 pub returns : goal.returns
-returns c = taps_done c.loop-e.invariant c.loop-e-test.false
+returns c = taps_done c.loop-e.invariant (omega arith)

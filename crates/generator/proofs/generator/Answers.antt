@@ -12,8 +12,8 @@ use Rattle.codes.specs.Rows.{RowOf}
 use Rattle.generator.specs.Generator.{Generator}
 use Rattle.generator.proofs.generator.Goals as goal
 
-room : (s : List ℕ) → s ≡ replicate 1024 0 → length s ≡ 1024
-room s e = ap length e ∙ length-replicate {A = ℕ} 1024 0
+room : length (replicate {A = ℕ} 1024 0) ≡ 1024
+room = length-replicate {A = ℕ} 1024 0
 
 small : {m row d : ℕ} → RowOf m row → d ≡ n_of m - get_or ks row 0 → d + 1 ≤ 1024
 small w e = let s = sizes w.listed in omega arith
@@ -32,17 +32,17 @@ pub overflow_add-end : goal.overflow_add-end
 overflow_add-end c = let h = small c.requires.0 c.requires.1 in omega arith
 
 pub slice_bounds-space-end : goal.slice_bounds-space-end
-slice_bounds-space-end c = let h = small c.requires.0 c.requires.1 in omega (arith, room _ c.word_space-space.ensures)
+slice_bounds-space-end c = let h = small c.requires.0 c.requires.1 in omega (arith, room)
 
 pub slice_bounds-fill_generator-end : goal.slice_bounds-fill_generator-end
-slice_bounds-fill_generator-end c = sym (front _ _ (small c.requires.0 c.requires.1) (room _ c.word_space-space.ensures))
+slice_bounds-fill_generator-end c = sym (front _ _ (small c.requires.0 c.requires.1) room)
 
 pub fill_generator-requires : goal.fill_generator-requires
 fill_generator-requires c =
     let p = c.requires in
-    (p.0, front _ _ (small p.0 p.1) (room _ c.word_space-space.ensures) ∙ ap (λ (x : ℕ). x + 1) p.1)
+    (p.0, front _ _ (small p.0 p.1) room ∙ ap (λ (x : ℕ). x + 1) p.1)
 
 pub returns : goal.returns
 returns c =
     let p = c.requires in
-    filled _ p.1 (small p.0 p.1) (room _ c.word_space-space.ensures) c.fill_generator.ensures
+    filled _ p.1 (small p.0 p.1) room c.fill_generator.ensures

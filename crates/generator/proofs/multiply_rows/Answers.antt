@@ -1,36 +1,46 @@
-use mathlib.Core.Path.{ap, subst}
-use mathlib.Core.List.{List}
-use Prim.Native.Nat.{ℕ, ◌-◌, ◌≤◌}
 use native.Mathlib.Omega.{arith}
-use native.Mathlib.Nat.{le_antisymm}
-use lib.ListN.{length}
+use mathlib.Core.Path.{◌≡◌, ◌∙◌, ap, subst}
+use mathlib.Core.List.{List}
+use Prim.Native.Nat.{ℕ, ◌+◌, ◌-◌, ◌≤◌, ◌<◌}
+use lib.ListN.{length, get_or, take, drop, length-drop}
+use lib.Seq.{get_or-take, get_or-drop, length-take-le}
+use Rattle.generator.specs.Minimals.{minimals}
 use Rattle.generator.specs.Factors.{product_of}
 use Rattle.generator.specs.Work.{Cut}
 use Rattle.generator.proofs.Products.{cut_start, cut_next, minimals_long}
 use Rattle.generator.proofs.multiply_rows.Goals as goal
 
-all : (from to r : ℕ) {n : ℕ} {g : List ℕ} → Cut (product_of from (r - from)) n g → r ≤ to → to ≤ r → Cut (product_of from (to - from)) n g
-all from to r {n} {g} s h k = subst (λ (x : ℕ). Cut (product_of from (x - from)) n g) (le_antisymm h k) s
+rows_long : (from to : ℕ) {table : List ℕ} → table ≡ minimals → to ≤ 232 → length (take (to - from) (drop from table)) ≡ to - from
+rows_long from to {table} e h =
+    length-take-le (to - from) (drop from table) (omega (arith, ap length e, minimals_long, length-drop from table))
 
-pub loop-r-init : goal.loop-r-init
-loop-r-init c = let p = c.requires in (cut_start _ _ _ p.0, omega arith, p.3)
+row_at : (from to k : ℕ) {table : List ℕ} → table ≡ minimals → k < to - from
+    → get_or (take (to - from) (drop from table)) k 0 ≡ get_or minimals (from + k) 0
+row_at from to k {table} e h =
+    get_or-take (to - from) (drop from table) k 0 h ∙ get_or-drop from table k 0 ∙ ap (λ (l : List ℕ). get_or l (from + k) 0) e
 
-pub bounds-minimals-r : goal.bounds-minimals-r
-bounds-minimals-r c =
-    omega (arith, ap length c.requires.2, minimals_long)
+pub slice_bounds-minimal-items-end : goal.slice_bounds-minimal-items-end
+slice_bounds-minimal-items-end c = omega (arith, ap length c.requires.2, minimals_long)
+
+pub loop-minimal-init : goal.loop-minimal-init
+loop-minimal-init c = cut_start _ _ _ c.requires.0
 
 pub multiply-requires : goal.multiply-requires
 multiply-requires c =
-    let v = c.loop-r.invariant.0 in
+    let v = c.loop-minimal.invariant in
     (v.bits, omega (arith, v.same, c.requires.1))
 
-pub loop-r-preserved : goal.loop-r-preserved
-loop-r-preserved c =
-    let v = c.loop-r.invariant in
-    (cut_next c.requires.2 v.1 v.0 c.multiply.ensures c.multiply.auto.g, omega arith, omega arith)
+pub loop-minimal-preserved : goal.loop-minimal-preserved
+loop-minimal-preserved c =
+    let p = c.requires in
+    let at = row_at _ c.args.to c.loop-minimal.minimal-index p.2 (omega (arith, rows_long c.args.from c.args.to p.2 p.4)) in
+    cut_next _ _ at c.loop-minimal.invariant c.multiply.ensures c.multiply.auto.g
 
 pub shape_of-g : goal.shape_of-g
-shape_of-g c = c.loop-r.invariant.0.same
+shape_of-g c = c.loop-minimal.invariant.same
 
 pub returns : goal.returns
-returns c = all _ _ _ c.loop-r.invariant.0 c.loop-r.invariant.2 c.loop-r-test.false
+returns c =
+    let p = c.requires in
+    let whole : c.loop-minimal.minimal-index ≡ c.args.to - c.args.from = omega (arith, rows_long c.args.from c.args.to p.2 p.4) in
+    subst (λ (k : ℕ). Cut (product_of c.args.from k) (length c.args.g.now) c.loop-minimal.g) whole c.loop-minimal.invariant

@@ -14,8 +14,8 @@ offset_bounds-b-i c = omega (arith, c.loop-i.invariant.from, c.loop-i.invariant.
 pub bounds-b-i : goal.bounds-b-i
 bounds-b-i c = omega (arith, c.loop-i.invariant.from, c.loop-i.invariant.filled.same)
 
-pub product-s-requires : goal.product-s-requires
-product-s-requires c =
+pub product-requires : goal.product-requires
+product-requires c =
     (c.requires.0, c.requires.1, c.requires.4 _ (omega arith))
 
 pub offset_bounds-sigma-i : goal.offset_bounds-sigma-i
@@ -24,24 +24,15 @@ offset_bounds-sigma-i c = omega (arith, c.loop-i.invariant.from, c.loop-i.invari
 pub bounds-sigma-i : goal.bounds-sigma-i
 bounds-sigma-i c = omega (arith, c.loop-i.invariant.from, c.loop-i.invariant.filled.same)
 
-pub offset_bounds-sigma-i-in-loop-i : goal.offset_bounds-sigma-i-in-loop-i
-offset_bounds-sigma-i-in-loop-i c = omega (arith, c.loop-i.invariant.from, c.loop-i.invariant.filled.same)
-
 pub bounds-sigma-i-in-loop-i : goal.bounds-sigma-i-in-loop-i
 bounds-sigma-i-in-loop-i c = omega (arith, c.loop-i.invariant.from, c.loop-i.invariant.filled.same)
 
-pub overflow_add-i : goal.overflow_add-i
-overflow_add-i c = omega (arith, c.loop-i.invariant.from, c.loop-i.invariant.filled.same)
-
-pub loop-i-smaller : goal.loop-i-smaller
-loop-i-smaller c = omega (arith, c.loop-i.invariant.from, c.loop-i.invariant.filled.same)
-
 pub loop-i-preserved : goal.loop-i-preserved
 loop-i-preserved c =
-    mending_next c.loop-i.invariant c.loop-i-test.true c.requires.3 c.product-s.ensures
+    mending_next c.loop-i.invariant (omega arith) c.requires.3 c.product.ensures
 
 pub shape_of-sigma : goal.shape_of-sigma
 shape_of-sigma c = c.loop-i.invariant.filled.same
 
 pub returns : goal.returns
-returns c = mending_done c.loop-i.invariant c.loop-i-test.false
+returns c = mending_done c.loop-i.invariant (omega arith)

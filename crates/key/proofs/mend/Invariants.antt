@@ -1,10 +1,6 @@
 -- The loop keeps: the entries before i are mended.
-use Prim.Native.Nat.{◌-◌}
 use Rattle.key.proofs.MendLaws.{Mending}
 use Rattle.key.proofs.mend.Given as goal
 
 abbrev pub invariant-loop-i : goal.invariant-loop-i
 invariant-loop-i l = Mending l.m l.factor l.gap l.count l.b l.initial.sigma l.sigma l.i
-
-abbrev pub decreases-loop-i : goal.decreases-loop-i
-decreases-loop-i l = l.count - l.i

@@ -5,12 +5,16 @@ use Rattle.key.proofs.missed.Goals as goal
 pub loop-i-init : goal.loop-i-init
 loop-i-init c = crossing_start _ _ _ _ _
 
-pub product-s-requires : goal.product-s-requires
-product-s-requires c =
-    (c.requires.0, c.requires.4 _ c.loop-i-test.true, c.requires.5 _ (omega arith))
+pub product-d-requires : goal.product-d-requires
+product-d-requires c =
+    (c.requires.0, c.requires.4 _ (omega arith), c.requires.5 _ (omega arith))
 
 pub loop-i-preserved : goal.loop-i-preserved
-loop-i-preserved c = crossing_next c.loop-i.invariant c.loop-i-test.true c.product-s.ensures
+loop-i-preserved c = crossing_next c.loop-i.invariant (omega arith) c.product-d.ensures
 
 pub returns : goal.returns
-returns c = crossing_done c.loop-i.invariant c.loop-i-test.false
+returns c = crossing_done c.loop-i.invariant (omega arith)
+
+-- after the last product
+pub returns-2 : goal.returns-2
+returns-2 c = crossing_done (crossing_next c.loop-i.invariant (omega arith) c.product-d.ensures) (omega arith)

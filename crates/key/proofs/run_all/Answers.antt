@@ -18,7 +18,7 @@ loop-r-init c =
 
 pub step-at-requires : goal.step-at-requires
 step-at-requires c =
-    (c.requires.0, c.requires.1, c.requires.2, c.loop-r-test.true, c.loop-r.invariant.1)
+    (c.requires.0, c.requires.1, c.requires.2, (omega arith), c.loop-r.invariant.1)
 
 pub shape_of-sigma-then-t-l : goal.shape_of-sigma-then-t-l
 shape_of-sigma-then-t-l c =
@@ -30,7 +30,7 @@ shape_of-b-then-t-l c =
 
 pub returns-then-t-l : goal.returns-then-t-l
 returns-then-t-l c =
-    solved_over c.step-at.ensures c.loop-r-test.true c.if-t-l.true
+    solved_over c.step-at.ensures (omega arith) c.if-t-l.true
 
 pub loop-r-preserved : goal.loop-r-preserved
 loop-r-preserved c = (
@@ -48,5 +48,5 @@ shape_of-b c = c.loop-r.invariant.3 ∙ simp length-set
 
 pub returns : goal.returns
 returns c =
-    let z : c.loop-r.r ≡ 2 * c.args.t = omega (arith, c.loop-r.invariant.0, c.loop-r-test.false) in
+    let z : c.loop-r.r ≡ 2 * c.args.t = omega (arith, c.loop-r.invariant.0) in
     solved_done c.loop-r.invariant.1 z

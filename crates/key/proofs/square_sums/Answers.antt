@@ -29,7 +29,7 @@ bounds-all-i-in-loop-i c = simp length-set (omega (arith, c.loop-i.invariant.sam
 
 pub product-square-requires : goal.product-square-requires
 product-square-requires c =
-    let b = squaring_below c.loop-i.invariant (omega arith) (c.requires.2 _ c.loop-i-test.true) c.loop-i.i (omega arith) in
+    let b = squaring_below c.loop-i.invariant (omega arith) (c.requires.2 _ (omega arith)) c.loop-i.i (omega arith) in
     (c.requires.0, b, b)
 
 pub overflow_mul-all-in-loop-i : goal.overflow_mul-all-in-loop-i
@@ -44,19 +44,13 @@ offset_bounds-all-i-in-loop-i-2 c = omega (arith, c.loop-i.invariant.same)
 pub bounds-all-i-in-loop-i-2 : goal.bounds-all-i-in-loop-i-2
 bounds-all-i-in-loop-i-2 c = simp length-set (omega (arith, c.loop-i.invariant.same))
 
-pub overflow_add-i : goal.overflow_add-i
-overflow_add-i c = omega (arith, c.loop-i.invariant.same)
-
-pub loop-i-smaller : goal.loop-i-smaller
-loop-i-smaller c = omega (arith, c.loop-i.invariant.same)
-
 pub loop-i-preserved : goal.loop-i-preserved
 loop-i-preserved c =
-    squaring_next c.requires.0.listed c.loop-i.invariant c.loop-i-test.true c.requires.4
-    (c.requires.2 _ c.loop-i-test.true) c.product-square.ensures
+    squaring_next c.requires.0.listed c.loop-i.invariant (omega arith) c.requires.4
+    (c.requires.2 _ (omega arith)) c.product-square.ensures
 
 pub shape_of-all : goal.shape_of-all
 shape_of-all c = c.loop-i.invariant.same
 
 pub returns : goal.returns
-returns c = squaring_done c.loop-i.invariant c.loop-i-test.false
+returns c = squaring_done c.loop-i.invariant (omega arith)

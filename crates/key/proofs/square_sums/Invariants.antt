@@ -1,10 +1,6 @@
 -- The loop keeps: the sums before place 2i are there, and each S_2j among them is the square of S_j.
-use Prim.Native.Nat.{◌-◌}
 use Rattle.key.proofs.Squares.{Squaring}
 use Rattle.key.proofs.square_sums.Given as goal
 
 abbrev pub invariant-loop-i : goal.invariant-loop-i
 invariant-loop-i l = Squaring l.m l.t l.sums l.initial.all l.all l.i
-
-abbrev pub decreases-loop-i : goal.decreases-loop-i
-decreases-loop-i l = l.t - l.i

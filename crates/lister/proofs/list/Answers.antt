@@ -1,10 +1,9 @@
--- The front of the buffer is as long as it says.
 use native.Mathlib.Omega.{arith}
-use lib.ListN.{length-take}
+use Rattle.lister.proofs.ListLaws.{going_first, going_on}
 use Rattle.lister.proofs.list.Goals as goal
 
-pub slice_bounds-list_pieces-end : goal.slice_bounds-list_pieces-end
-slice_bounds-list_pieces-end c = simp length-take (omega arith)
+pub loop-left-init : goal.loop-left-init
+loop-left-init g c = let new = c.new-lister.ensures in going_first _ _ new.0 new.1
 
-pub list_pieces-requires : goal.list_pieces-requires
-list_pieces-requires c = simp length-take (omega arith)
+pub loop-left-preserved : goal.loop-left-preserved
+loop-left-preserved g c = going_on c.loop-left.invariant c.in-Ok.ensures c.take_in.ensures (omega arith)

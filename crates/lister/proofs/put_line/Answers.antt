@@ -10,10 +10,10 @@ pub overflow_add-result : goal.overflow_add-result
 overflow_add-result c =
     let end = c.args.end in
     let room = length-take (end + 128 - end) (drop end c.args.lines.now) in
-    record { fits = omega (arith, writes_fits c.write_line-long.ensures, c.write_line-long.auto.out, room) }
+    record { fits = omega (arith, writes_fits c.write_line.ensures, c.write_line.auto.out, room) }
 
 pub returns : goal.returns
 returns c =
     let end = c.args.end in
-    line_put c.args.frame.now c.args.lines.now end (end + 128 - end) c.read-answer.ensures (omega arith) (omega arith)
-    c.write_line-long.auto.out c.write_line-long.ensures
+    line_put c.read.result c.args.frame.now c.args.lines.now end (end + 128 - end) c.read.ensures (omega arith) (omega arith)
+    c.write_line.auto.out c.write_line.ensures

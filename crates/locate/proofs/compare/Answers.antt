@@ -1,6 +1,10 @@
 -- The sums of the places are filled in, and compared.
+use native.Mathlib.Omega.{arith}
+use Rattle.entries.proofs.LookLaws.{fronts_same}
 use Rattle.locate.proofs.TrialLaws.{agrees}
 use Rattle.locate.proofs.compare.Goals as goal
 
 pub returns : goal.returns
-returns c = agrees c.place_sums.ensures c.same_first.ensures
+returns c =
+    let p = c.requires in
+    agrees c.place_sums.ensures (fronts_same c.place_sums.new.sums c.args.sums.now (omega (arith, p.2, c.place_sums.ensures.same)) p.4 c.eq.ensures)

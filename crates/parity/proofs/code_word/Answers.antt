@@ -1,5 +1,5 @@
 -- Room for any word has room for this one.
-use mathlib.Core.Path.{◌≡◌, ◌∙◌, sym, ap, subst}
+use mathlib.Core.Path.{◌≡◌, ◌∙◌, refl, sym, ap, subst}
 use mathlib.Core.List.{List, ◌++◌}
 use Prim.Native.Nat.{ℕ}
 use native.Mathlib.Omega.{arith}
@@ -25,11 +25,11 @@ at_front {c} {message} {space} {word} M z E =
     )
 
 pub slice_bounds-fill_word-end : goal.slice_bounds-fill_word-end
-slice_bounds-fill_word-end c = sym (filled c.requires c.word_space-space.ensures)
+slice_bounds-fill_word-end c = sym (filled c.requires refl)
 
 pub fill_word-requires : goal.fill_word-requires
-fill_word-requires c = (c.requires, filled c.requires c.word_space-space.ensures)
+fill_word-requires c = (c.requires, filled c.requires refl)
 
 pub returns : goal.returns
 returns c =
-    at_front c.requires c.word_space-space.ensures c.fill_word.ensures
+    at_front c.requires refl c.fill_word.ensures

@@ -34,4 +34,4 @@ pub shape_of-sums : goal.shape_of-sums
 shape_of-sums c = c.loop-i.invariant.filled.same
 
 pub returns : goal.returns
-returns c = stretch_done c.loop-i.invariant c.loop-i-test.false
+returns c = stretch_done c.loop-i.invariant (omega arith)

@@ -1,11 +1,6 @@
 -- The loop keeps: the first i places of the stretch are put in, and the sums are brought up to date.
-use Prim.Native.Nat.{◌-◌}
-use lib.ListN.{length}
 use Rattle.splice.specs.Work.{StretchSpliced}
 use Rattle.splice.proofs.splice_stretch.Given as goal
 
 abbrev pub invariant-loop-i : goal.invariant-loop-i
 invariant-loop-i l = StretchSpliced l.m l.t l.start l.stretch l.initial.bits l.initial.sums l.bits l.sums l.i
-
-abbrev pub decreases-loop-i : goal.decreases-loop-i
-decreases-loop-i l = length l.stretch - l.i

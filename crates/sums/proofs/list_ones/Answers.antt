@@ -14,20 +14,18 @@ offset_bounds-places-count c = omega (arith, c.loop-i.invariant.fewer, c.require
 pub bounds-places-count : goal.bounds-places-count
 bounds-places-count c = omega (arith, c.loop-i.invariant.fewer, c.loop-i.invariant.long, c.requires.1, c.requires.2)
 
-pub overflow_cast-count : goal.overflow_cast-count
-overflow_cast-count c = omega (arith, c.requires.0.at c.loop-i.i)
-
 pub overflow_add-count : goal.overflow_add-count
 overflow_add-count c =
-    omega (arith, c.requires.0.at c.loop-i.i, c.loop-i.invariant.fewer, c.requires.1)
+    omega (arith, c.from-count.ensures, c.requires.0.at c.loop-i.i, c.loop-i.invariant.fewer, c.requires.1)
 
 pub loop-i-preserved : goal.loop-i-preserved
 loop-i-preserved c =
-    listing_next c.requires.0 c.loop-i.invariant c.loop-i-test.true
-    (omega (arith, c.loop-i.invariant.long, c.requires.1, c.requires.2))
+    rw c.from-count.ensures
+    (listing_next c.requires.0 c.loop-i.invariant (omega arith)
+    (omega (arith, c.loop-i.invariant.long, c.requires.1, c.requires.2)))
 
 pub shape_of-places : goal.shape_of-places
 shape_of-places c = c.loop-i.invariant.long
 
 pub returns : goal.returns
-returns c = listing_done c.loop-i.invariant c.loop-i-test.false (omega (arith, c.requires.1, c.requires.2))
+returns c = listing_done c.loop-i.invariant (omega arith) (omega (arith, c.requires.1, c.requires.2))

@@ -1,30 +1,29 @@
-use mathlib.Core.Path.{◌≡◌, ◌∙◌, refl}
+use mathlib.Core.Path.{◌∙◌, ap}
 use native.Mathlib.Omega.{arith}
+use Rattle.std.proofs.Common.{rules}
+use Rattle.entries.proofs.FillLaws.{fill_clear}
+use Rattle.field.specs.Power.{a, power}
 use Rattle.sums.proofs.SumSteps.{placing_start, placing_next, placing_done}
 use Rattle.sums.proofs.place_sums.Goals as goal
 
-pub clear_first-requires : goal.clear_first-requires
-clear_first-requires c = c.requires.4
-
-pub loop-i-init : goal.loop-i-init
-loop-i-init c = (omega arith, placing_start _ c.clear_first.ensures)
+pub loop-place-init : goal.loop-place-init
+loop-place-init c = placing_start _ (fill_clear c.fill.new.self c.requires.3 (search rules))
 
 pub add_place-requires : goal.add_place-requires
-add_place-requires c = (
-  c.requires.0,
-  c.requires.1,
-  c.requires.3 _ c.loop-i-test.true,
-  omega (arith, c.requires.4, c.loop-i.invariant.1.filled.same, c.clear_first.ensures.same),
-)
+add_place-requires c =
+    let p = c.requires in
+    let z = fill_clear c.fill.new.self p.3 (search rules) in
+    (p.0, p.1, omega (arith, c.from.ensures, p.2 _ c.loop-place-test.true), omega (arith, p.3, c.loop-place.invariant.filled.same, z.same))
 
-pub loop-i-preserved : goal.loop-i-preserved
-loop-i-preserved c =
-    (omega arith, placing_next c.requires.0 c.loop-i.invariant.1 (omega (arith, c.requires.2)) refl c.add_place.ensures)
+pub loop-place-preserved : goal.loop-place-preserved
+loop-place-preserved c =
+    placing_next c.requires.0 c.loop-place.invariant c.loop-place-test.true (ap (power c.args.m a) c.from.ensures) c.add_place.ensures
 
 pub shape_of-sums : goal.shape_of-sums
-shape_of-sums c = c.loop-i.invariant.1.filled.same ∙ c.clear_first.ensures.same
+shape_of-sums c =
+    let z = fill_clear c.fill.new.self c.requires.3 (search rules) in
+    c.loop-place.invariant.filled.same ∙ z.same
 
 pub returns : goal.returns
 returns c =
-    let z : c.loop-i.i ≡ c.args.count = omega arith in
-    placing_done c.clear_first.ensures c.loop-i.invariant.1 z
+    placing_done (fill_clear c.fill.new.self c.requires.3 (search rules)) c.loop-place.invariant c.loop-place-test.false

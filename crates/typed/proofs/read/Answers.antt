@@ -1,25 +1,15 @@
--- The line is split at its first blank: the number before it, the rest after it.
-use mathlib.Core.Path.{sym, subst}
-use native.Mathlib.Omega.{arith}
-use lib.Seq.{length-take-le}
-use Rattle.typed.specs.Work.{AnswersNumber}
-use Rattle.typed.proofs.SplitLaws.{parts, no_parts, house_then}
+-- A step that finds nothing leaves no reading for the whole line.
+use Rattle.typed.proofs.SplitLaws.{alone, says_after}
 use Rattle.typed.proofs.read.Goals as goal
 
-pub returns-then-end-line : goal.returns-then-end-line
-returns-then-end-line c = λ reading p. no_parts c.first_blank-end.ensures c.if-end-line.true p
+pub returns-in_err-house : goal.returns-in_err-house
+returns-in_err-house c = rw c.from_residual.ensures (λ reading p. c.in_err-house.ensures _ _ (alone p))
 
-pub slice_bounds-number-end : goal.slice_bounds-number-end
-slice_bounds-number-end c = sym (length-take-le _ _ c.first_blank-end.ensures.within)
+pub returns-in_err-poll : goal.returns-in_err-poll
+returns-in_err-poll c =
+    rw c.from_residual-in_err-poll.ensures (λ reading p. c.in_err-poll.ensures _ _ (alone (says_after c.in_ok-house.ensures p)))
 
-pub returns-in_default : goal.returns-in_default
-returns-in_default c =
-    λ reading p. subst (AnswersNumber _ _) c.in_default.is c.number.ensures _ (parts c.first_blank-end.ensures (omega arith) p).0
-
-pub overflow_cast-house : goal.overflow_cast-house
-overflow_cast-house c = record { fits = (subst (AnswersNumber _ _) c.in-Is.is c.number.ensures).small }
-
-pub returns : goal.returns
-returns c =
-    house_then c.first_blank-end.ensures (omega arith) c.read_poll.result
-    (subst (AnswersNumber _ _) c.in-Is.is c.number.ensures) c.read_poll.ensures
+pub returns-in_err-counter : goal.returns-in_err-counter
+returns-in_err-counter c =
+    rw c.from_residual-in_err-counter.ensures
+    (λ reading p. c.in_err-counter.ensures _ (says_after c.in_ok-poll.ensures (says_after c.in_ok-house.ensures p)))

@@ -52,12 +52,9 @@ add_first-e-requires c =
     let p = c.requires in
     (p.0, p.1, p.2, around_below c.requires.0 c.args.step c.n_of-n.ensures c.around-one.ensures, omega (arith, p.4))
 
-pub loop-j-init : goal.loop-j-init
-loop-j-init c =
+pub loop-i-init : goal.loop-i-init
+loop-i-init c =
     record {
-      on = omega arith;
-      within = omega arith;
-      fours = omega arith;
       strides = strides c.args.step c.requires.0 c.n_of-n.ensures c.around-one.ensures
           c.around-two.ensures c.around-three.ensures c.around-four.ensures;
       walked = walked_to (walked_start _ _ _ c.add_first-e.ensures.below) (omega arith);
@@ -65,64 +62,54 @@ loop-j-init c =
 
 pub overflow_add-e : goal.overflow_add-e
 overflow_add-e c =
-    let z = sizes c.requires.0 in omega (arith, (strides_within c.requires.0 c.loop-j.invariant.strides c.loop-j.invariant.walked.below).first)
+    let z = sizes c.requires.0 in omega (arith, (strides_within c.requires.0 c.loop-i.invariant.strides c.loop-i.invariant.walked.below).first)
 
-pub overflow_add-e-in-loop-j : goal.overflow_add-e-in-loop-j
-overflow_add-e-in-loop-j c =
-    let z = sizes c.requires.0 in omega (arith, (strides_within c.requires.0 c.loop-j.invariant.strides c.loop-j.invariant.walked.below).second)
+pub overflow_add-e-in-loop-i : goal.overflow_add-e-in-loop-i
+overflow_add-e-in-loop-i c =
+    let z = sizes c.requires.0 in omega (arith, (strides_within c.requires.0 c.loop-i.invariant.strides c.loop-i.invariant.walked.below).second)
 
-pub overflow_add-e-in-loop-j-2 : goal.overflow_add-e-in-loop-j-2
-overflow_add-e-in-loop-j-2 c =
-    let z = sizes c.requires.0 in omega (arith, (strides_within c.requires.0 c.loop-j.invariant.strides c.loop-j.invariant.walked.below).third)
+pub overflow_add-e-in-loop-i-2 : goal.overflow_add-e-in-loop-i-2
+overflow_add-e-in-loop-i-2 c =
+    let z = sizes c.requires.0 in omega (arith, (strides_within c.requires.0 c.loop-i.invariant.strides c.loop-i.invariant.walked.below).third)
 
 pub add_four-requires : goal.add_four-requires
 add_four-requires c =
     let p = c.requires in
-    let v = c.loop-j.invariant in
-    let b = strides_within c.requires.0 c.loop-j.invariant.strides c.loop-j.invariant.walked.below in
+    let v = c.loop-i.invariant in
+    let b = strides_within c.requires.0 c.loop-i.invariant.strides c.loop-i.invariant.walked.below in
     let l = p.1.long in (
       omega (arith, l, v.walked.below),
       omega (arith, l, b.first),
       omega (arith, l, b.second),
       omega (arith, l, b.third),
-      omega (arith, p.4, v.walked.added.same, c.add_first-e.ensures.added.same, v.fours),
+      omega (arith, p.4, v.walked.added.same, c.add_first-e.ensures.added.same),
     )
 
-pub overflow_add-e-in-loop-j-3 : goal.overflow_add-e-in-loop-j-3
-overflow_add-e-in-loop-j-3 c =
+pub overflow_add-e-in-loop-i-3 : goal.overflow_add-e-in-loop-i-3
+overflow_add-e-in-loop-i-3 c =
     let z = sizes c.requires.0 in
-    let b = strides_within c.requires.0 c.loop-j.invariant.strides c.loop-j.invariant.walked.below in
+    let b = strides_within c.requires.0 c.loop-i.invariant.strides c.loop-i.invariant.walked.below in
     omega (arith, b.third, b.fourth)
 
 pub around-e-requires : goal.around-e-requires
 around-e-requires c =
-    let b = strides_within c.requires.0 c.loop-j.invariant.strides c.loop-j.invariant.walked.below in
-    omega (arith, b.third, b.fourth, c.loop-j.invariant.strides.is_n)
+    let b = strides_within c.requires.0 c.loop-i.invariant.strides c.loop-i.invariant.walked.below in
+    omega (arith, b.third, b.fourth, c.loop-i.invariant.strides.is_n)
 
-pub overflow_add-j : goal.overflow_add-j
-overflow_add-j c = omega (arith, c.loop-j.invariant.fours)
-
-pub loop-j-smaller : goal.loop-j-smaller
-loop-j-smaller c = omega (arith, c.loop-j.invariant.fours)
-
-pub loop-j-preserved : goal.loop-j-preserved
-loop-j-preserved c =
+pub loop-i-preserved : goal.loop-i-preserved
+loop-i-preserved c =
     let p = c.requires in
-    let v = c.loop-j.invariant in
+    let v = c.loop-i.invariant in
     let k = c.add_first-e.ensures.added.same in
     record {
-      on = omega (arith, v.on);
-      within = omega (arith, v.fours);
-      fours = omega (arith, v.fours);
       strides = v.strides;
-      walked = walked_on_by_four p.0 v.strides p.1 v.walked (omega (arith, v.on)) (omega (arith, p.4, k, v.fours))
-          c.around-e.ensures c.add_four.ensures (omega (arith, v.on));
+      walked = walked_on_by_four p.0 v.strides p.1 v.walked (omega arith) (omega (arith, p.4, k)) c.around-e.ensures c.add_four.ensures (omega arith);
     }
 
 pub shape_of-entries : goal.shape_of-entries
-shape_of-entries c = c.loop-j.invariant.walked.added.same ∙ c.add_first-e.ensures.added.same
+shape_of-entries c = c.loop-i.invariant.walked.added.same ∙ c.add_first-e.ensures.added.same
 
 pub returns : goal.returns
 returns c =
-    walk_done c.args.from c.args.step c.requires.0 c.n_of-n.ensures c.around-one.ensures
-    c.add_first-e.ensures c.loop-j.invariant.walked.added (omega (arith, c.loop-j.invariant.on, c.loop-j.invariant.within))
+    walk_done c.args.from c.args.step c.requires.0 c.n_of-n.ensures c.around-one.ensures c.add_first-e.ensures
+    c.loop-i.invariant.walked.added (omega arith)

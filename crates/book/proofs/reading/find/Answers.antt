@@ -1,16 +1,15 @@
 -- What looking refuses, or where the frame stands.
+use Rattle.std.proofs.lemmas.Result.{err_from_is_err_and}
 use Rattle.book.proofs.ReadLaws.{counted_fits, found_frame, found_none}
 use Rattle.book.proofs.reading.find.Goals as goal
 
+pub returns-in_err-count : goal.returns-in_err-count
+returns-in_err-count c =
+    let p = err_from_is_err_and c.from_residual.result c.from_residual.ensures.1 in
+    rw (p.1, p.2) (found_none c.look.ensures c.in_err-count.was)
+
 pub find_frame-requires : goal.find_frame-requires
-find_frame-requires c =
-    counted_fits c.look-looked.ensures c.in-Done.is
+find_frame-requires c = counted_fits c.look.ensures c.in_ok-count.was
 
-pub returns-in-Done : goal.returns-in-Done
-returns-in-Done c =
-    found_frame c.look-looked.ensures c.in-Done.is c.find_frame.ensures
-
-pub returns-in-Refused : goal.returns-in-Refused
-returns-in-Refused c =
-    let r = c.not_found.ensures in
-    found_none c.look-looked.ensures c.in-Refused.is r.0 r.1
+pub returns : goal.returns
+returns c = found_frame _ c.look.ensures c.in_ok-count.was c.find_frame.ensures

@@ -3,15 +3,10 @@ use mathlib.Core.Path.{◌∙◌, sym, ap}
 use mathlib.Core.List.{List}
 use Prim.Native.Nat.{ℕ}
 use native.Mathlib.Omega.{arith}
-use Rattle.sheet.proofs.VerdictLaws.{refuses_as, does, always}
+use Rattle.sheet.proofs.VerdictLaws.{refuses, does, always}
 use Rattle.book.specs.Read.{number_at}
 use Rattle.book.proofs.ReadLaws.{has_trailer, trailer_part, part_long, sized_as}
 use Rattle.book.proofs.reading.look.Goals as goal
-
-pub returns-then-lacks_trailer : goal.returns-then-lacks_trailer
-returns-then-lacks_trailer c =
-    let r = c.not_counted.ensures in
-    refuses_as (rw (sym c.lacks_trailer.ensures ∙ c.if-lacks_trailer.true)) r.0 r.1
 
 pub overflow_sub-end : goal.overflow_sub-end
 overflow_sub-end c = (has_trailer _ (sym c.lacks_trailer.ensures ∙ c.if-lacks_trailer.false)).long
@@ -33,8 +28,7 @@ returns-then-size_is_wrong c =
     let book = c.args.book.now in
     let right = sym c.lacks_trailer.ensures ∙ c.if-lacks_trailer.false in
     let size = sized_as book c.number_at-count.ensures c.number_at-distance.ensures c.size_is_wrong.ensures in
-    let r = c.not_counted-then-size_is_wrong.ensures in
-    refuses_as (rw (right, sym size ∙ c.if-size_is_wrong.true)) r.0 r.1
+    refuses (rw (right, sym size ∙ c.if-size_is_wrong.true))
 
 pub returns : goal.returns
 returns c =

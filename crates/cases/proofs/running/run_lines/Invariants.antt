@@ -1,12 +1,7 @@
--- Each turn passes a line.
-use mathlib.Core.Path.{◌≡◌}
-use Prim.Native.Nat.{◌+◌, ◌-◌, ◌≤◌}
-use lib.ListN.{length}
+-- What is lent stays as long as it was, and the lent fronts stay within it.
+use Rattle.std.proofs.Common.{length, ◌≡◌, ◌≤◌}
 use Rattle.cases.proofs.running.run_lines.Given as goal
 
-abbrev pub invariant-loop-at : goal.invariant-loop-at
-invariant-loop-at l = (l.at ≤ length l.text + 1) × (l.line ≤ l.at) × (length l.word ≡ length l.initial.word) × (length l.stretch ≡ length l.initial.stretch)
+abbrev pub invariant-loop-i : goal.invariant-loop-i
+invariant-loop-i l = (length l.word ≡ length l.initial.word) × (length l.stretch ≡ length l.initial.stretch)
     × (l.bench.word ≤ length l.word) × (l.bench.stretch ≤ length l.stretch)
-
-abbrev pub decreases-loop-at : goal.decreases-loop-at
-decreases-loop-at l = length l.text + 1 - l.at

@@ -1,17 +1,15 @@
 -- The message, its encoding, and the bytes of that.
-use mathlib.Core.Path.{◌∙◌, ap}
-use Prim.Native.Nat.{ℕ}
-use lib.ListN.{length, length-replicate}
-use Rattle.frame.proofs.MakeLaws.{encoded, made}
+use mathlib.Core.Path.{refl}
+use Rattle.frame.proofs.MakeLaws.{encoded, encode_done, made}
 use Rattle.frame.proofs.making.fill_frame.Goals as goal
+
+pub unwrap-requires : goal.unwrap-requires
+unwrap-requires c = rw (encode_done c.args.reading c.fill_message.ensures refl c.encode.ensures) refl
 
 pub pack-requires : goal.pack-requires
 pack-requires c =
-    let long = ap length c.word_space-word.ensures ∙ length-replicate {A = ℕ} 255 0 in
-    let e = encoded c.args.reading c.fill_message.ensures long c.encode.ensures in
+    let e = encoded c.args.reading c.fill_message.ensures refl c.encode.ensures in
     (e.code_word.bits, e.code_word.long, c.requires)
 
 pub returns : goal.returns
-returns c =
-    let long = ap length c.word_space-word.ensures ∙ length-replicate {A = ℕ} 255 0 in
-    made c.args.reading c.fill_message.ensures long c.encode.ensures c.pack.ensures
+returns c = made c.args.reading c.fill_message.ensures refl c.encode.ensures c.pack.ensures

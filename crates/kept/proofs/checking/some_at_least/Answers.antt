@@ -1,15 +1,13 @@
-use native.Mathlib.Omega.{arith}
-use Rattle.kept.proofs.RecordLaws.{looking_start, looking_next, looking_high, looking_done}
+use mathlib.Core.Path.{◌∙◌}
+use Rattle.std.proofs.Common.{rules, tests, ℕ}
+use Rattle.std.specs.Prelude.{leb}
+use Rattle.std.proofs.lemmas.Iterator.{YieldsList-from_slice}
+use Rattle.std.proofs.lemmas.Iterator.Search.{any_from_yields_List}
+use Rattle.kept.proofs.RecordLaws.{any_at_least}
 use Rattle.kept.proofs.checking.some_at_least.Goals as goal
 
-pub loop-i-init : goal.loop-i-init
-loop-i-init c = looking_start _ _
-
-pub returns-then-bound-x : goal.returns-then-bound-x
-returns-then-bound-x c = looking_high c.loop-i.invariant c.loop-i-test.true c.if-bound-x.true
-
-pub loop-i-preserved : goal.loop-i-preserved
-loop-i-preserved c = looking_next c.loop-i.invariant c.loop-i-test.true c.if-bound-x.false
-
 pub returns : goal.returns
-returns c = looking_done c.loop-i.invariant c.loop-i-test.false
+returns c =
+    any_from_yields_List (λ (x : ℕ). leb c.args.bound x) _ _ c.any.result c.any.ensures.ran (YieldsList-from_slice c.args.entries.now cc)
+    (λ x b q k. search (rules, tests))
+    ∙ any_at_least c.args.bound c.args.entries.now

@@ -1,9 +1,0 @@
--- Each turn passes a digit.
-use Rattle.std.proofs.Common.{length, ◌-◌, ◌≤◌}
-use Rattle.commands.proofs.numbers.value_of.Given as goal
-
-abbrev pub invariant-loop-i : goal.invariant-loop-i
-invariant-loop-i l = l.i ≤ length l.digits
-
-abbrev pub decreases-loop-i : goal.decreases-loop-i
-decreases-loop-i l = length l.digits - l.i
