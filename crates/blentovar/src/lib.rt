@@ -1,11 +1,13 @@
 // The operations under C names, each a thin call of the proved one; blentovar_c exports them. What C would pad is a field that holds 0.
+// C has no Result, so its structs have the number of the refusal beside the value, and 0 where nothing is refused.
 
 #![tactic(auto)]
 
 ghost use Rattle.std.specs.Prelude.{◌≡◌, ◌≤◌};
 ghost use Rattle.blentovar.specs.Answers.{SizesAs, DescribesAs, EncodesAs, DecodesAs, EditsAs, OpensAs, SplicesAs, DecodesKeptAs, MakesAs, ReadsAs};
 ghost use Rattle.blentovar.specs.Answers.{LooksAs, ReadsBookAs, WritesBookAs};
-ghost use Rattle.blentovar.specs.Layout.{sizes_answer, decode_answer, laid_out, kept_of, kept_answer, decode_kept_answer, read_answer, look_answer, part_answer};
+ghost use Rattle.blentovar.specs.Layout.{sizes_answer, decode_answer, laid_out, kept_of, kept_answer, decode_kept_answer};
+ghost use Rattle.blentovar.specs.Layout.{read_answer, look_answer, part_answer};
 ghost use Rattle.book.specs.Read.{span_of};
 
 use book::Found;

@@ -1,4 +1,5 @@
 // The operations for C: each export calls the function of blentovar that has its name, and promises the same.
+// A crate is a library or exports for C, so each name stands twice.
 
 #![tactic(auto)]
 

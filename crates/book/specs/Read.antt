@@ -1,6 +1,7 @@
 -- Looking at a book and reading a frame of it. docs/SCOPE.md 4.13: "Gives the count of frames."; 4.14: "Gives the part of the book in which frame i stands, the
 -- very 32 bytes and no copy." 5.2: their checks are 13, 14 and 13, 14, 15.
-use Rattle.std.specs.Prelude.{◌≡◌, Bool, not, ◌&&◌, ◌||◌, List, [], ◌∷◌, ◌++◌, ℕ, ◌+◌, ◌-◌, ◌*◌, ◌^◌, eqb, leb, ltb, length, get_or, take, drop, Result, Ok, Err}
+use Rattle.std.specs.Prelude.{◌≡◌, Bool, not, ◌&&◌, ◌||◌, List, [], ◌∷◌, ◌++◌, ℕ, ◌+◌, ◌-◌, ◌*◌, ◌^◌, eqb, leb, ltb, length, get_or, take, drop, Result, Ok}
+use Rattle.std.specs.Prelude.{Err}
 use Rattle.std.specs.Borrow.{Bor}
 use Rattle.std.specs.Result.{result_unwrap_or}
 use Rattle.sheet.specs.declared.Refusal.{Refusal}

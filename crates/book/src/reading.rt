@@ -66,7 +66,7 @@ fn has_mark(trailer: &[u8]) -> bool
     ensures { result ≡ has_mark trailer.now }
 {
     let mark = mark_bytes();
-    check::same(&trailer[..4], &mark)
+    trailer[..4] == mark[..]
 }
 
 // The 32-bit number in four bytes, highest byte first.
@@ -74,17 +74,8 @@ fn number_at(bytes: &[u8], at: usize) -> usize
     requires { at + 4 ≤ length bytes.now }
     ensures { result ≡ number_at bytes.now at }
 {
-    let first = wide(bytes[at]);
-    let second = wide(bytes[at + 1]);
-    let third = wide(bytes[at + 2]);
-    let fourth = wide(bytes[at + 3]);
-    16777216 * first + 65536 * second + 256 * third + fourth
-}
-
-fn wide(x: u8) -> usize
-    ensures { (result ≡ x) × (result < 256) }
-{
-    x as usize
+    let four = [bytes[at], bytes[at + 1], bytes[at + 2], bytes[at + 3]];
+    u32::from_be_bytes(four) as usize
 }
 
 // Where frame `i` stands in a book.

@@ -108,7 +108,7 @@ fn edit_copy(
     let told = blentovar::blentovar_edit(m, t, copy, start, stretch);
     show_told(line, told.number, told.buffer, told.place);
     print(b" word");
-    if check::same(copy, word) {
+    if copy[..] == word[..] {
         print(b" kept");
     } else {
         show_all(copy);
@@ -182,8 +182,8 @@ fn read(line: u64, numbers: &[usize], frame: &[u8]) {
     }
     let answer = blentovar::blentovar_read_frame(frame);
     show_number(line, answer.number);
-    print_number(answer.house as u64);
-    print_number(answer.poll as u64);
+    print_number(u64::from(answer.house));
+    print_number(u64::from(answer.poll));
     print_number(answer.counter);
     print_number(answer.wrong as u64);
     end_line();

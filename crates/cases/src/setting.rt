@@ -26,7 +26,8 @@ fn put_pairs(numbers: &[usize], word: &mut [u8]) -> bool {
     numbers.len() % 2 == 1
 }
 
-// A word of zeros but for some places, at the front of the room. Gives its length, which is 0 where the line is not understood, here and below.
+// A word of zeros but for some places, at the front of the room. Gives its length, which is 0 where the line is not understood, here and below:
+// the lent word is then a word of no places, so that no caller has a case for it.
 pub(crate) fn set_places(line: u64, numbers: &[usize], room: &mut [u8]) -> usize
     ensures { result ≤ length room.old }
 {

@@ -28,13 +28,13 @@ pub(crate) fn not_understood(line: u64) {
 // The line's number and the sheet's.
 pub(crate) fn show_number(line: u64, number: u32) {
     io::print_decimal(STDOUT_FILENO, line);
-    print_number(number as u64);
+    print_number(u64::from(number));
 }
 
 // The same, with the buffer and the place that come with it.
 pub(crate) fn show_told(line: u64, number: u32, buffer: u32, place: usize) {
     show_number(line, number);
-    print_number(buffer as u64);
+    print_number(u64::from(buffer));
     print_number(place as u64);
 }
 

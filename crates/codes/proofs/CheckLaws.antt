@@ -14,7 +14,7 @@ use Rattle.std.specs.Prelude.{Result, Ok, Err}
 use Rattle.sheet.specs.Verdict.{Check, verdict}
 use Rattle.sheet.specs.Work.{AllPass}
 use Rattle.sheet.proofs.VerdictLaws.{Verdict, passed, refused, verdict-cases, none_refuses, not_done}
-use Rattle.sheet.proofs.VerdictLaws.{refuses_as, does, promise_one}
+use Rattle.sheet.proofs.VerdictLaws.{does, promise_one}
 use Rattle.codes.specs.declared.Code.{Code}
 use Rattle.codes.specs.Table.{first}
 use Rattle.codes.specs.Look.{row_of, is_field, is_listed, code_of, code_checks, code_verdict, CodePromise}
@@ -112,13 +112,6 @@ passes_is v {c} d e = pick (verdict-cases v)
     pick (passed z) = let f : ◌≡◌ {A = Result Code Refusal} (Ok c) (Ok d) = rw z at e in (z, cc)
     pick (refused r z) = absurd (not_both (rw z at e))
 
-refuses_is : (v : Outcome) {r : Refusal} (d : Code) → Err r ≡ passing v d → v ≡ Err r
-refuses_is v {r} d e = pick (verdict-cases v)
-  where
-    pick : Verdict v → v ≡ Err r
-    pick (passed z) = absurd (not_both (sym (rw z at e)))
-    pick (refused s z) = let f : ◌≡◌ {A = Result Code Refusal} (Err r) (Err s) = rw z at e in let g : s ≡ r = cc in z ∙ ap Err g
-
 module _ {m t : ℕ} {checks : Code → List Check} {look : Result Code Refusal} where
   -- what the checks leave where all have passed
   passed_past : {c : Code} → look ≡ Ok c → Checked m t checks look
@@ -134,16 +127,12 @@ module _ {m t : ℕ} {checks : Code → List Check} {look : Result Code Refusal}
   passed_checks e l = let (is, p, z) = passed_past e l in ap (λ (x : Code). verdict (checks x)) is ∙ p.rest
 
   module _ {L : Type 0} {Does : Code → Outcome → L → Type 0} {stays : L} where
-    -- an operation whose checks have passed, and one that they refuse
+    -- an operation whose checks have passed
     pub on_passed : {c : Code} {answer : Outcome} {left : L} → look ≡ Ok c → Checked m t checks look → Does c answer left
         → CodePromise m t checks Does stays answer left
     on_passed {c} {answer} {left} e l d =
         let (is, p, z) = passed_past e l in
         record { promise = does z (subst (λ (x : Code). Does x answer left) is d) }
-
-    pub on_refused_as : {r : Refusal} {answer : Outcome} {left : L} → look ≡ Err r → Checked m t checks look → answer ≡ Err r → left ≡ stays
-        → CodePromise m t checks Does stays answer left
-    on_refused_as e l a s = record { promise = refuses_as (refuses_is (code_verdict m t checks) (code_of m t) (sym e ∙ l.is)) a s }
 
 -- one outcome, where what is done for a code is one
 pub code_one : {L : Type 0} {m t : ℕ} {checks : Code → List Check} {Does : Code → Outcome → L → Type 0} {stays : L} {x y : Outcome} {left left' : L}

@@ -23,6 +23,7 @@ pub struct Code {
 }
 
 // The row that has t, from `from` up to, not including, `to`; and `to` if none has it.
+// A number and no Option, since `row_from`, by which `look_up` promises what it does, is `to` for none.
 fn find_row(ts: &[u16], from: usize, to: usize, t: usize) -> usize
     requires { (ts.now ≡ Table·ts) × (from ≤ to) × (to ≤ 232) }
     ensures { result ≡ row_from (to - from) from t }
@@ -48,7 +49,7 @@ pub fn look_up(m: usize, t: usize) -> Result<Code, Refusal>
     let row = find_row(&ts, from, to, t);
     if row < to {
         let ks = table::ks();
-        let k = ks[row] as usize;
+        let k = usize::from(ks[row]);
         let n = field::n_of(m);
         Ok(Code { m, t, row, n, k })
     } else {

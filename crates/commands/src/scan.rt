@@ -3,6 +3,7 @@
 ghost use Rattle.std.specs.Prelude.{◌≡◌, ◌≢◌, ◌≤◌, ◌<◌, ℕ, length, slice_index};
 
 // The first place from `start` on that holds the byte, or the end of the text where none does.
+// The end and no Option: who asks wants to know how far a word goes, and one that nothing ends goes to the end of the text.
 pub fn find(text: &[u8], start: usize, byte: u8) -> usize
     requires { start ≤ length text.now }
     ensures low { start ≤ result }

@@ -70,7 +70,8 @@ write_book_one p q = promise_one (λ z a b. always_one (λ v w. v.is ∙ sym w.i
 
 -- what is a book
 
-pub book_exactly : (book : List ℕ) (x : Result ℕ Refusal) (count : ℕ) → AreBytes book → Looks book x → ((outcome_of x ≡ Ok tt) × (result_unwrap_or x 0 ≡ count)) ↔ IsBook book count
+pub book_exactly : (book : List ℕ) (x : Result ℕ Refusal) (count : ℕ) → AreBytes book → Looks book x
+    → ((outcome_of x ≡ Ok tt) × (result_unwrap_or x 0 ≡ count)) ↔ IsBook book count
 book_exactly book x count b p = (λ (e, c). there e c, back)
   where
     there : outcome_of x ≡ Ok tt → result_unwrap_or x 0 ≡ count → IsBook book count
@@ -142,7 +143,8 @@ module _ {frames lent book : List ℕ} {x : Outcome} (p : WritesBook frames lent
         q.part.lies ∙ ap (λ (a : ℕ). (book'.ref_ptr.0, a + book'.ref_ptr.1)) from,
       )
 
-  home_none : (i : ℕ) (y : Result Found Refusal) → Finds (front ++ book) i y → frame_count frames ≤ i → (outcome_of y ≡ Err NoSuchFrame) × (span_of y ≡ empty_span)
+  home_none : (i : ℕ) (y : Result Found Refusal) → Finds (front ++ book) i y → frame_count frames ≤ i
+      → (outcome_of y ≡ Err NoSuchFrame) × (span_of y ≡ empty_span)
   home_none i y q h = found_nowhere whole y q h
 
   home_empty : (book' r : Bor (List ℕ)) (i : ℕ) → book'.now ≡ front ++ book → ReadsPart book' i r → frame_count frames ≤ i
@@ -185,7 +187,8 @@ module _ {frames lent book : List ℕ} {x : Outcome} (p : WritesBook frames lent
   home_listed (refuses r z w) = absurd (not_done (sym z ∙ book_passes whole))
 
 -- what stands before the frames is not looked at: other bytes there, as many, give the same answer
-pub find_behind : (front front' rest : List ℕ) {i : ℕ} (x y : Result Found Refusal) → length front ≡ length front' → 16 ≤ length rest → Finds (front ++ rest) i x
+pub find_behind : (front front' rest : List ℕ) {i : ℕ} (x y : Result Found Refusal) → length front ≡ length front' → 16 ≤ length rest
+    → Finds (front ++ rest) i x
     → Finds (front' ++ rest) i y → x ≡ y
 find_behind front front' rest {i} x y e h p q =
     let long = length-append front rest ∙ ap (λ (n : ℕ). n + length rest) e ∙ sym (length-append front' rest) in

@@ -154,7 +154,8 @@ Holds (far m t received) =
 Holds (told_edit m t word start stretch told) = (left : List ℕ) (x : Outcome) → Edits m t word start stretch x left → outcome_told x ≡ told
 Holds (told_splice m t start stretch told) = (x : Result Kept Refusal) → Splices (zeros_of m t) start stretch x → outcome_told (outcome_of x) ≡ told
 Holds (part_at book i start) = (x : Result Found Refusal) → Finds book i x → (outcome_of x ≡ Ok tt) × ((span_of x).from ≡ start) × ((span_of x).to ≡ start + 32)
-Holds (no_part book i number) = (x : Result Found Refusal) → Finds book i x → (outcome_number (outcome_of x) ≡ number) × ((span_of x).from ≡ 0) × ((span_of x).to ≡ 0)
+Holds (no_part book i number) = (x : Result Found Refusal) → Finds book i x
+    → (outcome_number (outcome_of x) ≡ number) × ((span_of x).from ≡ 0) × ((span_of x).to ≡ 0)
 Holds (no_frame frame number) = Unread frame number
 Holds (stuck_line bit frame) = Unread frame 11
 Holds (summed m received sums) = (i : ℕ) → i < length sums → sum_of m (2 * i + 1) (bits_at (n_of m) received) ≡ get_or sums i 0
@@ -430,7 +431,8 @@ tests [] = true
 tests (c ∷ cs) = both (test c) (tests cs)
 
 tested : T (tests cases)
-unfolding tests cases test sent_tests mended_tests far_tests part_tests stuck_tests refuses checks_pass is_done tells_as is_code_word has_sums same_list bits_at no_set zeroes
+unfolding tests cases test sent_tests mended_tests far_tests part_tests stuck_tests refuses checks_pass is_done tells_as is_code_word has_sums same_list
+    bits_at no_set zeroes
     plus_place has_mark number_at lacks_trailer size_is_wrong sent_bit place_bit word_of distance list_of is_listed
     row_of row_from k_of first firsts ks ts listed_codes first_above flip flipped differences differences_from sum_of sum_from power ◌⊗⟨◌⟩◌ remainder
     carryless horner digits shifted polynomial polynomials ◌⊕◌ some_at_least

@@ -254,7 +254,8 @@ after_opened : {m t : ℕ} {word : List ℕ} {stored after : Kept} (splices : Li
     → OpenReady (code_of m t) (resulting word splices) × Opened (resulting word splices) (code_of m t) after
 after_opened {m} {t} {word} [] R O e = (R, subst (Opened word (code_of m t)) e O)
 after_opened {m} {t} {word} {stored} (s ∷ splices) R O (x, p, rest) =
-    let (Q, P) = one_splice R O s.0 s.1 x p in after_opened {m = m} {t = t} {word = spliced word (s.0, s.1)} {stored = result_unwrap_or x stored} splices Q P rest
+    let (Q, P) = one_splice R O s.0 s.1 x p in after_opened {m = m} {t = t} {word = spliced word (s.0, s.1)} {stored = result_unwrap_or x stored} splices Q P
+    rest
 
 module _ {m t : ℕ} {word : List ℕ} (x : Result Kept Refusal) {stored : Kept} (splices : List (ℕ × List ℕ)) (o : Opens m t word x) (e : outcome_of x ≡ Ok tt)
     (a : After (result_unwrap_or x zero_kept) splices stored) where

@@ -181,13 +181,15 @@ pub demand_2_number : Numbered (λ (m t : ℕ). verdict (code_checks m t []) ≡
 demand_2_number = codes_in_number
 
 -- Sizes tells them: it is done and gives k exactly if the rule holds, n is 2^m - 1, and Describe answers the same.
-pub demand_2_sizes : {m t : ℕ} (x : Result Described Refusal) → GivesSizes m t x → (k : ℕ) → ((outcome_of x ≡ Ok tt) × ((sizes_given x).k ≡ k)) ↔ (IsField m × Rule m k t)
+pub demand_2_sizes : {m t : ℕ} (x : Result Described Refusal) → GivesSizes m t x → (k : ℕ)
+    → ((outcome_of x ≡ Ok tt) × ((sizes_given x).k ≡ k)) ↔ (IsField m × Rule m k t)
 demand_2_sizes x p k = sizes_by_rule x p k
 
 pub demand_2_n : {m t : ℕ} (x : Result Described Refusal) → GivesSizes m t x → outcome_of x ≡ Ok tt → (sizes_given x).n ≡ n_of m
 demand_2_n x p e = sizes_n x p e
 
-pub demand_2_described : {m t : ℕ} {lent left : List ℕ} (x y : Result Described Refusal) → GivesSizes m t x → Describes m t lent y left → outcome_of y ≡ Ok tt → x ≡ y
+pub demand_2_described : {m t : ℕ} {lent left : List ℕ} (x y : Result Described Refusal) → GivesSizes m t x → Describes m t lent y left
+    → outcome_of y ≡ Ok tt → x ≡ y
 demand_2_described x y p q e = sizes_as_described x y p q e
 
 -- The field has 2^m elements, every nonzero one has its inverse, and a has order n and no smaller one.
@@ -195,7 +197,8 @@ pub demand_2_field : {m : ℕ} → IsField m → GaloisField m
 demand_2_field L = the_field L
 
 -- The generator is the least common multiple of the minimal polynomials of a, a^3, .. a^(2t-1); there is one minimal polynomial for each power of a.
-pub demand_2_generator : {m t : ℕ} {lent left : List ℕ} (x : Result Described Refusal) → Describes m t lent x left → outcome_of x ≡ Ok tt → LeastCommonMultiple m t left
+pub demand_2_generator : {m t : ℕ} {lent left : List ℕ} (x : Result Described Refusal) → Describes m t lent x left → outcome_of x ≡ Ok tt
+    → LeastCommonMultiple m t left
 demand_2_generator x p e = generator_is_lcm x p e
 
 pub demand_2_only_generator : {m t : ℕ} {lent left : List ℕ} (x : Result Described Refusal) → Describes m t lent x left → outcome_of x ≡ Ok tt
@@ -247,8 +250,10 @@ demand_2_mended x p e = mended_again x p e
 
 -- docs/SCOPE.md 9: "After an accepted Open and any list of splices, refused ones among them, decoding what is kept answers as 2 does for the
 -- resulting bits taken afresh;" the record is the very one that Open gives for these bits.
-pub demand_3_record : {m t : ℕ} {word : List ℕ} (x y : Result Kept Refusal) {stored : Kept} (splices : List (ℕ × List ℕ)) → Opens m t word x → outcome_of x ≡ Ok tt
-    → After (result_unwrap_or x zero_kept) splices stored → Opens m t (resulting word splices) y → (outcome_of y ≡ Ok tt) × (stored ≡ result_unwrap_or y zero_kept)
+pub demand_3_record : {m t : ℕ} {word : List ℕ} (x y : Result Kept Refusal) {stored : Kept} (splices : List (ℕ × List ℕ)) → Opens m t word x
+    → outcome_of x ≡ Ok tt
+    → After (result_unwrap_or x zero_kept) splices stored → Opens m t (resulting word splices) y
+    → (outcome_of y ≡ Ok tt) × (stored ≡ result_unwrap_or y zero_kept)
 demand_3_record x y splices o e a q = kept_as_opened x splices o e a y q
 
 pub demand_3_keeping : {m t : ℕ} {word lentWord lentList word₁ list₁ word₂ list₂ : List ℕ} (x : Result Kept Refusal) {stored : Kept} (y z : Result ℕ Refusal)
@@ -268,7 +273,8 @@ demand_3_refused x p n = splice_refused x n p
 
 -- The whole word spliced in, after any splices, is that word opened afresh.
 pub demand_3_whole : {m t : ℕ} {word stretch : List ℕ} (x y z : Result Kept Refusal) {stored : Kept} (splices : List (ℕ × List ℕ)) → Opens m t word x
-    → outcome_of x ≡ Ok tt → After (result_unwrap_or x zero_kept) splices stored → Splices stored 0 stretch y → Opens m t stretch z → outcome_of z ≡ Ok tt → y ≡ z
+    → outcome_of x ≡ Ok tt → After (result_unwrap_or x zero_kept) splices stored → Splices stored 0 stretch y → Opens m t stretch z → outcome_of z ≡ Ok tt
+    → y ≡ z
 demand_3_whole x y z splices o e a p q f = whole_splice x splices o e a y z p q f
 
 -- docs/SCOPE.md 9: "A sent word whose message is edited becomes the encoding of the edited message;" which is what an accepted Encode of that message
@@ -287,7 +293,8 @@ pub demand_3_only : {m t start : ℕ} {lent stretch left : List ℕ} {x : Outcom
 demand_3_only p = edit_only p
 
 -- docs/SCOPE.md 6.2: "What is made reads back as it was made, also with up to 23 changed bits." The changed ones are counted.
-pub frame_home : {reading : Reading} {lent made : List ℕ} (received : List ℕ) {e : ℕ} (x : Result ReadFrame Refusal) → Lawful reading → Makes reading lent (Ok tt) made
+pub frame_home : {reading : Reading} {lent made : List ℕ} (received : List ℕ) {e : ℕ} (x : Result ReadFrame Refusal) → Lawful reading
+    → Makes reading lent (Ok tt) made
     → length received ≡ 32 → sent_bit received 255 ≡ 0 → distance (word_of made) (word_of received) ≡ e → e ≤ 23 → Reads received x → x ≡ read_as reading e
 frame_home received x L p l pad d few r = changed_reads_back received x L p l pad d few r
 
@@ -302,7 +309,8 @@ frame_stuck_line frame s p = stuck_listed frame s p
 
 -- docs/SCOPE.md 6.3: "The trailer is always the last 16 bytes, and other bytes may stand before the first frame." Looking at bytes is done and gives a count
 -- exactly if they are a book of so many frames.
-pub book_looked : (book : List ℕ) (x : Result ℕ Refusal) (count : ℕ) → AreBytes book → Looks book x → ((outcome_of x ≡ Ok tt) × (result_unwrap_or x 0 ≡ count)) ↔ IsBook book count
+pub book_looked : (book : List ℕ) (x : Result ℕ Refusal) (count : ℕ) → AreBytes book → Looks book x
+    → ((outcome_of x ≡ Ok tt) × (result_unwrap_or x 0 ≡ count)) ↔ IsBook book count
 book_looked book x count b p = book_exactly book x count b p
 
 -- docs/SCOPE.md 6.3: "What the writer makes from a list of frames, the reader gives back frame for frame," also with other bytes in front.
@@ -310,7 +318,8 @@ pub book_home : {frames lent book : List ℕ} {x : Outcome} → WritesBook frame
 book_home p e front = book_carried p e front
 
 -- What stands before the frames is not looked at: other bytes there, as many, give the same answer.
-pub book_before : (front front' rest : List ℕ) {i : ℕ} (x y : Result Found Refusal) → length front ≡ length front' → 16 ≤ length rest → Finds (front ++ rest) i x
+pub book_before : (front front' rest : List ℕ) {i : ℕ} (x y : Result Found Refusal) → length front ≡ length front' → 16 ≤ length rest
+    → Finds (front ++ rest) i x
     → Finds (front' ++ rest) i y → x ≡ y
 book_before front front' rest x y e h p q = find_behind front front' rest x y e h p q
 

@@ -156,7 +156,8 @@ made_lead {reading} frame m = lead_right (word_of frame) (record { at = sent })
 
 -- a frame whose word differs from that of a made one in at most 23 places, with the pad left alone, reads back as it was made, and the differences are
 -- counted
-pub changed_reads_back : {reading : Reading} {lent made : List ℕ} (received : List ℕ) {e : ℕ} (y : Result ReadFrame Refusal) → Lawful reading → Makes reading lent (Ok tt) made
+pub changed_reads_back : {reading : Reading} {lent made : List ℕ} (received : List ℕ) {e : ℕ} (y : Result ReadFrame Refusal) → Lawful reading
+    → Makes reading lent (Ok tt) made
     → length received ≡ 32 → sent_bit received 255 ≡ 0 → distance (word_of made) (word_of received) ≡ e → e ≤ 23 → Reads received y → y ≡ read_as reading e
 changed_reads_back {reading} {lent} {made} received {e} y L p l pad d few r =
     read_one received y (read_as reading e) r (does (frame_passes received l pad) found)

@@ -68,7 +68,8 @@ spliced-one {c} {stored} {x = x} {y} p q =
     (λ i h. p.sums_changed i h ∙ ap (λ (after : List ℕ). plus_change c stored after i) b ∙ sym (q.sums_changed i h))
     (λ i h. p.sums_rest i h ∙ sym (q.sums_rest i h)))
 
-pub splice_one : {stored : Kept} {start : ℕ} {stretch : List ℕ} (x y : Result Kept Refusal) → Splices stored start stretch x → Splices stored start stretch y → x ≡ y
+pub splice_one : {stored : Kept} {start : ℕ} {stretch : List ℕ} (x y : Result Kept Refusal) → Splices stored start stretch x → Splices stored start stretch y
+    → x ≡ y
 splice_one {stored} x y p q = answer_same stored x y (code_one (λ c K z a b. always_one spliced-one a b) p q)
 
 -- what the checks of a splice come to
@@ -147,7 +148,8 @@ mends_kept_one {c} {stored} L M N =
     left_same (M.counts ∙ ap length e ∙ sym N.counts) (M.is_word ∙ ap (flipped (take c.n stored.bits)) e ∙ sym N.is_word)
     (M.is_list ∙ ap (λ (ps : List ℕ). ps ++ replicate (c.t - length ps) 0) e ∙ sym N.is_list)
 
-pub decode_kept_one : {stored : Kept} {lentWord lentList word list word' list' : List ℕ} (x y : Result ℕ Refusal) → DecodesKept stored lentWord lentList x word list
+pub decode_kept_one : {stored : Kept} {lentWord lentList word list word' list' : List ℕ} (x y : Result ℕ Refusal)
+    → DecodesKept stored lentWord lentList x word list
     → DecodesKept stored lentWord lentList y word' list' → (x ≡ y) × (word ≡ word') × (list ≡ list')
 decode_kept_one x y p q =
     decoded_same x y (code_one (λ c K z a b. search_one (mends_kept_one K.of_m.listed) (λ l M none. none M.places M.located) a b) p q)

@@ -66,7 +66,8 @@ module _ {m t : ℕ} (L : IsField m) {received : List ℕ} (B : AreBits received
       let k : x.wrong ≡ y.wrong = sym p.counts ∙ ap (distance received) e ∙ q.counts in
       left_same k e (p.lists ∙ ap₂ (λ (c : List ℕ) (n : ℕ). differences received c ++ replicate (t - n) 0) e k ∙ sym q.lists)
 
-pub decode_one : {m t : ℕ} {received lentWord lentList word list word' list' : List ℕ} (x y : Result ℕ Refusal) → Decodes m t received lentWord lentList x word list
+pub decode_one : {m t : ℕ} {received lentWord lentList word list word' list' : List ℕ} (x y : Result ℕ Refusal)
+    → Decodes m t received lentWord lentList x word list
     → Decodes m t received lentWord lentList y word' list' → (x ≡ y) × (word ≡ word') × (list ≡ list')
 decode_one {received = received} {lentWord} {lentList} x y p q =
     decoded_same x y

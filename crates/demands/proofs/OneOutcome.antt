@@ -77,7 +77,8 @@ sizes_one x y p q =
     let (o, given) = code_one (λ c K z a b. always_one given_one a b) p q in
     answered_one x y o (ap (λ (g : SizesGiven). g.n) given) (ap (λ (g : SizesGiven). g.k) given)
 
-pub describe_one : {m t : ℕ} {lent left left' : List ℕ} (x y : Result Described Refusal) → Describes m t lent x left → Describes m t lent y left' → (x ≡ y) × (left ≡ left')
+pub describe_one : {m t : ℕ} {lent left left' : List ℕ} (x y : Result Described Refusal) → Describes m t lent x left → Describes m t lent y left'
+    → (x ≡ y) × (left ≡ left')
 describe_one x y p q =
     let (o, given) = code_one (λ c K z a b. always_one (description_one K) a b) p q in (
       answered_one x y o (ap (λ (d : Description). d.n) given) (ap (λ (d : Description). d.k) given),

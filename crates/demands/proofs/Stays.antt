@@ -23,7 +23,8 @@ sizes_stays x p n =
     let e = refused_stays (λ a z. always_stays a z) p.promise n in
     (ap (λ (g : SizesGiven). g.n) e, ap (λ (g : SizesGiven). g.k) e)
 
-pub describe_stays : {m t : ℕ} {lent left : List ℕ} (x : Result Described Refusal) → Describes m t lent x left → outcome_of x ≢ Ok tt → ((sizes_given x).n ≡ 0) × ((sizes_given x).k ≡ 0) × (left ≡ lent)
+pub describe_stays : {m t : ℕ} {lent left : List ℕ} (x : Result Described Refusal) → Describes m t lent x left → outcome_of x ≢ Ok tt
+    → ((sizes_given x).n ≡ 0) × ((sizes_given x).k ≡ 0) × (left ≡ lent)
 describe_stays x p n =
     let e = refused_stays (λ a z. always_stays a z) p.promise n in
     (ap (λ (d : Description). d.n) e, ap (λ (d : Description). d.k) e, ap (λ (d : Description). d.generator) e)

@@ -79,7 +79,8 @@ pub k_by_rule : {m t k : ℕ} → IsField m → Rule m k t → k ≡ k_of m t
 k_by_rule {m} {t} {k} L R = sym (listed_k ((listed_exactly m k t L).1 R))
 
 -- Sizes is done and gives k exactly if the rule holds
-pub sizes_by_rule : {m t : ℕ} (x : Result Described Refusal) → GivesSizes m t x → (k : ℕ) → ((outcome_of x ≡ Ok tt) × ((sizes_given x).k ≡ k)) ↔ (IsField m × Rule m k t)
+pub sizes_by_rule : {m t : ℕ} (x : Result Described Refusal) → GivesSizes m t x → (k : ℕ)
+    → ((outcome_of x ≡ Ok tt) × ((sizes_given x).k ≡ k)) ↔ (IsField m × Rule m k t)
 sizes_by_rule {m} {t} x p k = (to, from)
   where
     to : (outcome_of x ≡ Ok tt) × ((sizes_given x).k ≡ k) → IsField m × Rule m k t
@@ -97,7 +98,8 @@ pub sizes_n : {m t : ℕ} (x : Result Described Refusal) → GivesSizes m t x �
 sizes_n x p e = (p.promise.done (done_passed p.promise e)).did.is_n
 
 -- where Describe is done, Sizes answers the same
-pub sizes_as_described : {m t : ℕ} {lent left : List ℕ} (x y : Result Described Refusal) → GivesSizes m t x → Describes m t lent y left → outcome_of y ≡ Ok tt → x ≡ y
+pub sizes_as_described : {m t : ℕ} {lent left : List ℕ} (x y : Result Described Refusal) → GivesSizes m t x → Describes m t lent y left
+    → outcome_of y ≡ Ok tt → x ≡ y
 sizes_as_described {m} {t} {lent} x y p q e =
     let w = done_passed q.promise e in
     let K = (past m t (describe_checks lent (code_of m t)) w).known in

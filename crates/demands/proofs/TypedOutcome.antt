@@ -26,6 +26,7 @@ typed_one line None None p q = refl
 said_lawful : {line : List ℕ} (reading : Reading) → Says reading line → Lawful reading
 said_lawful reading p = record { house = p.number.small; poll = p.after.number.small; counter = p.after.after.small }
 
-pub typed_reads_back : {line lent made : List ℕ} {reading : Reading} (y : Result ReadFrame Refusal) → Says reading line → Makes reading lent (Ok tt) made → Reads made y
+pub typed_reads_back : {line lent made : List ℕ} {reading : Reading} (y : Result ReadFrame Refusal) → Says reading line → Makes reading lent (Ok tt) made
+    → Reads made y
     → y ≡ read_as reading 0
 typed_reads_back {reading = reading} y p m r = made_reads_back y (said_lawful reading p) m r

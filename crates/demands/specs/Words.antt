@@ -1,5 +1,6 @@
 -- The words of the three demands (docs/SCOPE.md 9), in which the theorems of proofs/Demands are said.
-use Rattle.std.specs.Prelude.{◌≡◌, cond, ◌||◌, List, [], ◌∷◌, ◌++◌, ◌≢◌, ◌↔◌, ◌⊎◌, ℕ, ◌+◌, ◌-◌, ◌*◌, ◌/◌, ◌^◌, ◌≤◌, ◌<◌, eqb, length, get_or, take, drop, replicate, Option, Result, Ok, Err}
+use Rattle.std.specs.Prelude.{◌≡◌, cond, ◌||◌, List, [], ◌∷◌, ◌++◌, ◌≢◌, ◌↔◌, ◌⊎◌, ℕ, ◌+◌, ◌-◌, ◌*◌, ◌/◌, ◌^◌, ◌≤◌, ◌<◌, eqb, length, get_or, take, drop}
+use Rattle.std.specs.Prelude.{replicate, Option, Result, Ok, Err}
 use Rattle.std.specs.Result.{result_unwrap_or}
 use Rattle.std.specs.Borrow.{Bor}
 use Rattle.std.proofs.Math.Seq.{paste}
@@ -150,7 +151,8 @@ pub record NeverBadBit : Type 0 where
 -- to find; of a frame, also what the lead of the code word near it comes to.
 pub record OneCondition : Type 0 where
   pub sizes : {m t : ℕ} (x : Result Described Refusal) → GivesSizes m t x → outcome_of x ≡ code_verdict m t sizes_checks
-  pub describe : {m t : ℕ} {lent left : List ℕ} (x : Result Described Refusal) → Describes m t lent x left → outcome_of x ≡ code_verdict m t (describe_checks lent)
+  pub describe : {m t : ℕ} {lent left : List ℕ} (x : Result Described Refusal) → Describes m t lent x left
+      → outcome_of x ≡ code_verdict m t (describe_checks lent)
   pub encode : {m t : ℕ} {message lent left : List ℕ} {x : Outcome} → Encodes m t message lent x left → x ≡ code_verdict m t (encode_checks message lent)
   pub decode : {m t : ℕ} {received lentWord lentList word list : List ℕ} (x : Result ℕ Refusal) → Decodes m t received lentWord lentList x word list
       → (r : Refusal) → (outcome_of x ≡ Err r)
@@ -333,7 +335,8 @@ pub record CarriedHome (frames front book : List ℕ) : Type 0 where
   pub counted : (x : Result ℕ Refusal) → Looks (front ++ book) x → (outcome_of x ≡ Ok tt) × (result_unwrap_or x 0 ≡ frame_count frames)
   pub found : (i : ℕ) (x : Result Found Refusal) → Finds (front ++ book) i x → i < frame_count frames
       → (outcome_of x ≡ Ok tt) × ((span_of x).from ≡ length front + 32 * i) × ((span_of x).to ≡ length front + 32 * i + 32)
-  pub none : (i : ℕ) (x : Result Found Refusal) → Finds (front ++ book) i x → frame_count frames ≤ i → (outcome_of x ≡ Err NoSuchFrame) × (span_of x ≡ empty_span)
+  pub none : (i : ℕ) (x : Result Found Refusal) → Finds (front ++ book) i x → frame_count frames ≤ i
+      → (outcome_of x ≡ Err NoSuchFrame) × (span_of x ≡ empty_span)
   pub frame : (lent r : Bor (List ℕ)) (i : ℕ) → lent.now ≡ front ++ book → ReadsPart lent i r → i < frame_count frames
       → (r.now ≡ frame_at frames i) × (r.ref_ptr ≡ (lent.ref_ptr.0, length front + 32 * i + lent.ref_ptr.1))
   pub empty : (lent r : Bor (List ℕ)) (i : ℕ) → lent.now ≡ front ++ book → ReadsPart lent i r → frame_count frames ≤ i

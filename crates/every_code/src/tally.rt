@@ -35,8 +35,8 @@ fn with_number(mut tally: Tally, number: u64) -> Tally {
 // The number, the buffer and the place.
 pub(crate) fn with_outcome<T>(tally: Tally, answer: &Result<T, Refusal>) -> Tally {
     let told = sheet::tell_outcome(answer);
-    let numbered = with_number(tally, told.number as u64);
-    let buffered = with_number(numbered, told.buffer as u64);
+    let numbered = with_number(tally, u64::from(told.number));
+    let buffered = with_number(numbered, u64::from(told.buffer));
     with_number(buffered, told.place as u64)
 }
 

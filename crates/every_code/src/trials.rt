@@ -9,6 +9,7 @@ use crate::text::print_number;
 use crate::{keeping, mending, tally, words};
 use input::STDOUT_FILENO;
 
+// An enum and no closures: the lengths of the three parts of room are asked for once, in `turn_with`, and not of each closure on its way there.
 #[derive(Clone, Copy)]
 enum Trial {
     // The word whose bits are the number of the turn is decoded.

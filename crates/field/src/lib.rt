@@ -7,6 +7,10 @@ ghost use Rattle.field.specs.Product.{IsField, polynomial, ◌⊗⟨◌⟩◌};
 ghost use Rattle.field.specs.Power.{a, n_of, power, inverse};
 ghost use Rattle.field.specs.Tables.{Powers, Tables};
 
+mod tables;
+
+pub use tables::{FieldTables, PowerTable};
+
 // The field polynomials for m = 3 to 10, as docs/SCOPE.md 2 has them.
 const POLYNOMIALS: [u16; 8] = [11, 19, 37, 67, 131, 285, 529, 1033];
 
@@ -37,6 +41,9 @@ pub fn times_a(m: usize, p: u16, x: u16) -> u16
     }
     twice
 }
+
+// The functions by the two tables take them bare: docs/ARCHITECTURE.md names these functions, and a struct would ask more of who calls them.
+// `FieldTables` has them as methods.
 
 // Fills the places 0 to 2n - 1 with the powers of a. Since a^n is 1, each power stands at two places.
 pub fn fill_powers(m: usize, powers: &mut [u16])

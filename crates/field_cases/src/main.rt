@@ -2,10 +2,10 @@
 
 #![tactic(auto)]
 
-ghost use Rattle.std.specs.Prelude.{◌^◌, ◌<◌};
+ghost use Rattle.std.specs.Prelude.{◌≡◌, ◌^◌, ◌<◌};
 ghost use Rattle.field.specs.Product.{IsField};
-ghost use Rattle.field.specs.Tables.{Tables};
 
+use field::FieldTables;
 use input::STDOUT_FILENO;
 
 fn print(x: u16) {
@@ -18,50 +18,50 @@ fn end_line() {
 }
 
 // The value at x of the polynomial over bits that the number p stands for.
-fn value(m: usize, powers: &[u16], logs: &[u16], p: u16, x: u16) -> u16
-    requires { (Tables m powers.now logs.now) × (x < 2 ^ m) }
-    ensures { result < 2 ^ m }
+fn value(tables: &FieldTables, p: u16, x: u16) -> u16
+    requires { x < 2 ^ tables.now.m }
+    ensures { result < 2 ^ tables.now.m }
 {
     let mut sum = 0;
     for i in (0..16usize).rev() {
-        sum = field::product(m, powers, logs, sum, x) ^ (p >> i) % 2;
+        sum = tables.product(sum, x) ^ (p >> i) % 2;
     }
     sum
 }
 
 // The powers of a in GF(16), from a^0 to a^15.
-fn powers_line(powers: &[u16], logs: &[u16])
-    requires { Tables 4 powers.now logs.now }
+fn powers_line(tables: &FieldTables)
+    requires { tables.now.m ≡ 4 }
 {
     io::write_all(STDOUT_FILENO, b"powers");
     for i in 0..16 {
-        print(field::power(4, powers, logs, 2, i));
+        print(tables.power(2, i));
     }
     end_line();
 }
 
 // The minimal polynomials of a, a^3 and a^5 in GF(16) at their roots, and the first at a^3, where it does not vanish.
-fn roots_line(powers: &[u16], logs: &[u16])
-    requires { Tables 4 powers.now logs.now }
+fn roots_line(tables: &FieldTables)
+    requires { tables.now.m ≡ 4 }
 {
     io::write_all(STDOUT_FILENO, b"roots");
-    print(value(4, powers, logs, 19, 2));
-    print(value(4, powers, logs, 31, 8));
-    print(value(4, powers, logs, 7, 6));
-    print(value(4, powers, logs, 19, 8));
+    print(value(tables, 19, 2));
+    print(value(tables, 31, 8));
+    print(value(tables, 7, 6));
+    print(value(tables, 19, 8));
     end_line();
 }
 
 // The sums S_1, S_3, S_5 of the places 0, 1, 2, 3 and S_1, S_3 of place 3, in GF(16).
-fn sums_line(powers: &[u16], logs: &[u16])
-    requires { Tables 4 powers.now logs.now }
+fn sums_line(tables: &FieldTables)
+    requires { tables.now.m ≡ 4 }
 {
     io::write_all(STDOUT_FILENO, b"sums");
-    print(value(4, powers, logs, 15, 2));
-    print(value(4, powers, logs, 15, 8));
-    print(value(4, powers, logs, 15, 6));
-    print(value(4, powers, logs, 8, 2));
-    print(value(4, powers, logs, 8, 8));
+    print(value(tables, 15, 2));
+    print(value(tables, 15, 8));
+    print(value(tables, 15, 6));
+    print(value(tables, 8, 2));
+    print(value(tables, 8, 8));
     end_line();
 }
 
@@ -70,20 +70,24 @@ fn gf16() {
     let mut logs = [0; 1024];
     field::fill_powers(4, &mut powers);
     field::fill_logs(4, &powers, &mut logs);
-    powers_line(&powers, &logs);
-    roots_line(&powers, &logs);
-    sums_line(&powers, &logs);
+    let tables = FieldTables {
+        m: 4,
+        powers: &powers,
+        logs: &logs,
+    };
+    powers_line(&tables);
+    roots_line(&tables);
+    sums_line(&tables);
 }
 
 // a^m, the inverses of a and of 3, and the square of the largest element.
-fn values_line(m: usize, powers: &[u16], logs: &[u16])
-    requires { Tables m powers.now logs.now }
-{
+fn values_line(tables: &FieldTables) {
+    let m = tables.m;
     let largest = field::n_of(m) as u16;
-    let a_to_m = field::power(m, powers, logs, 2, m);
-    let inverse_of_a = field::inverse(m, powers, logs, 2);
-    let inverse_of_3 = field::inverse(m, powers, logs, 3);
-    let square = field::product(m, powers, logs, largest, largest);
+    let a_to_m = tables.power(2, m);
+    let inverse_of_a = tables.inverse(2);
+    let inverse_of_3 = tables.inverse(3);
+    let square = tables.product(largest, largest);
     io::print_decimal(STDOUT_FILENO, m as u64);
     print(a_to_m);
     print(inverse_of_a);
@@ -99,7 +103,12 @@ fn field_line(m: usize)
     let mut logs = [0; 1024];
     field::fill_powers(m, &mut powers);
     field::fill_logs(m, &powers, &mut logs);
-    values_line(m, &powers, &logs);
+    let tables = FieldTables {
+        m,
+        powers: &powers,
+        logs: &logs,
+    };
+    values_line(&tables);
 }
 
 fn main() {

@@ -41,6 +41,7 @@ pub fn read_whole<R: Read>(reader: &mut R, buffer: &mut [u8]) -> Came
 {
     let room = buffer.len();
     let mut held = 0;
+    // A `while`, since a read moves `held` by what has come.
     while held < room {
         match read_after(reader, held, room, buffer) {
             Ok(0) => break,

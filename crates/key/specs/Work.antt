@@ -1,7 +1,12 @@
 -- What the steps of the run leave in their buffers, in plain numbers; no promise rests on it.
-use Rattle.std.specs.Prelude.{◌≡◌, List, ◌++◌, ℕ, zero, suc, ◌+◌, ◌-◌, ◌*◌, ◌^◌, ◌<◌, get_or, replicate}
+use Rattle.std.specs.Prelude.{◌≡◌, List, ◌++◌, ℕ, Option, Some, None, zero, suc, ◌+◌, ◌-◌, ◌*◌, ◌^◌, ◌≤◌, ◌<◌, get_or, replicate}
 use Rattle.field.specs.Sum.{◌⊕◌}
 use Rattle.field.specs.Product.{◌⊗⟨◌⟩◌}
+
+-- what is answered of a number with this property: the number, or nothing where it is above t
+abbrev pub UpTo : ℕ → (ℕ → Type 0) → Option ℕ → Type 0
+UpTo t Is (Some l) = (l ≤ t) × Is l
+UpTo t Is None = (l : ℕ) × (t < l) × Is l
 
 -- factor times b, moved up by gap places, is added
 abbrev pub plus_moved : ℕ → ℕ → ℕ → List ℕ → List ℕ → ℕ → ℕ

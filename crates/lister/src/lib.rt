@@ -34,7 +34,7 @@ struct Lister {
 // Lists frames until the input ends, a read or a write fails, or 1,000,000 frames are listed.
 pub fn list<R: Read>(reader: &mut R) {
     let mut lister = Lister::new();
-    // What follows the millionth frame is not read.
+    // What follows the millionth frame is not read. A `while`, since a read moves `left` by what has come.
     let mut left = 32000000;
     while left > 0 {
         let Ok(count) = input::read_after(reader, lister.at.held, left, &mut lister.frames) else {

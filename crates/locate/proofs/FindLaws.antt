@@ -3,7 +3,7 @@ use mathlib.Core.Path.{◌≡◌, ◌∙◌, refl, sym, ap, ap₂}
 use mathlib.Core.Bool.{Bool, true, false}
 use mathlib.Core.List.Memᴰ
 use mathlib.Core.List.{List, [], ◌∷◌, map, Memᴰ}
-use Prim.Native.Nat.{ℕ, zero, suc, ◌+◌, ◌-◌, ◌*◌, ◌/◌, ◌%◌, ◌^◌, ◌≤◌, ◌<◌}
+use Prim.Native.Nat.{ℕ, zero, suc, ◌+◌, ◌-◌, ◌*◌, ◌/◌, ◌%◌, ◌≤◌, ◌<◌}
 use native.Mathlib.Nat.{add-zero}
 use native.Mathlib.Numerals.{add-one}
 use native.Mathlib.Decide.{ℕ_discrete}
@@ -31,7 +31,7 @@ use Rattle.codes.proofs.SumLaws.{sum_over-nil, sum_over-cons, sum_over_square}
 use Rattle.locate.specs.Located.{Located}
 use Rattle.entries.specs.Entries.{AllZero}
 use Rattle.key.specs.Work.{Squared}
-use Rattle.key.specs.Held.{series_of, state_at, SolvedFor}
+use Rattle.key.specs.Held.{series_of, SolvedFor}
 use Rattle.key.proofs.RunLaws.{series_at}
 use Rattle.locate.specs.Work.{value_from, tried, zeros, Tried, Agrees}
 use Rattle.locate.proofs.TrialLaws.{value_zero, value_suc, zeros_member, member_zeros, zeros_ascending}
@@ -266,10 +266,6 @@ located {m} {t} {c} {count} {r} {sums} {sigma} {places} w h l g e =
       few = omega (arith, length-take-le count places (omega arith));
       same = g.yes e;
     }
-
--- what the trial may read of sigma
-pub solved_below : {m t l : ℕ} {sums sigma : List ℕ} → SolvedFor m t sums l sigma → l ≤ t → (i : ℕ) → i < l + 1 → get_or sigma i 0 < 2 ^ m
-solved_below {t = t} s h i k = rw ((s.solved.short h).1 i (omega arith)) ((state_at s.solved.listed s.all (2 * t)).σ i).1
 
 -- where all sums are 0 no place is wrong
 pub none_wrong : {m t : ℕ} {r : Bool} {sums : List ℕ} → AllZero t sums r → r ≡ true → Located m t sums []

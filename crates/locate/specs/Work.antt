@@ -1,5 +1,6 @@
 -- What the stages of the trial leave in their buffers, in plain numbers; no promise rests on it.
-use Rattle.std.specs.Prelude.{◌≡◌, Bool, true, false, cond, List, [], ◌∷◌, ◌++◌, ℕ, zero, suc, ◌+◌, ◌-◌, ◌*◌, ◌≤◌, ◌<◌, eqb, length, get_or, take}
+use Rattle.std.specs.Prelude.{◌≡◌, Bool, true, false, cond, List, [], ◌∷◌, ◌++◌, ℕ, Option, Some, None, zero, suc, ◌+◌, ◌-◌, ◌*◌, ◌≤◌, ◌<◌, eqb, length, get_or}
+use Rattle.std.specs.Prelude.{take}
 use Rattle.field.specs.Sum.{◌⊕◌}
 use Rattle.field.specs.Product.{◌⊗⟨◌⟩◌}
 use Rattle.field.specs.Power.{a, n_of, power}
@@ -40,7 +41,7 @@ pub record Agrees (m t : ℕ) (places sums : List ℕ) (r : Bool) : Type 0 where
   pub yes : r ≡ true → (i : ℕ) → i < t → sum_over m (2 * i + 1) places ≡ get_or sums i 0
   pub no : r ≡ false → ((i : ℕ) → i < t → sum_over m (2 * i + 1) places ≡ get_or sums i 0) → ⊥
 
--- found places are written down and are located, or found is above t and there is nothing to locate
-pub record Sought (m t : ℕ) (sums : List ℕ) (found : ℕ) (places : List ℕ) : Type 0 where
-  pub some : found ≤ t → Located m t sums (take found places)
-  pub none : t < found → (ps : List ℕ) → Located m t sums ps → ⊥
+-- found places are written down and are located, or there is nothing to locate
+abbrev pub Sought : ℕ → ℕ → List ℕ → Option ℕ → List ℕ → Type 0
+Sought m t sums (Some found) places = (found ≤ t) × Located m t sums (take found places)
+Sought m t sums None places = (ps : List ℕ) → Located m t sums ps → ⊥

@@ -7,10 +7,12 @@ ghost use Rattle.bits.specs.Bits.{AreBits};
 ghost use Rattle.entries.specs.Entries.{Filled};
 ghost use Rattle.field.specs.Product.{IsField};
 ghost use Rattle.field.specs.Power.{n_of};
-ghost use Rattle.field.specs.Tables.{Powers, Tables};
 ghost use Rattle.sums.specs.OddSums.{OddSums};
+ghost use Rattle.key.specs.Work.{UpTo};
 ghost use Rattle.locate.specs.Search.{Searched, WordSearched};
 ghost use Rattle.locate.specs.Work.{plus_term, tried, NotedOne, Tried, Agrees, Sought};
+
+use field::{FieldTables, PowerTable};
 
 mod places;
 
@@ -18,25 +20,25 @@ pub use places::Places;
 
 // Adds the term with coefficient s at place j to the values of all places. Place i is tried at a^(n-i), so from one place to the next
 // the term is multiplied by a^(n-j).
-fn add_term(m: usize, powers: &[u16], logs: &[u16], s: u16, j: usize, values: &mut [u16])
-    requires { (Tables m powers.now logs.now) × (s < 2 ^ m) × (n_of m ≤ length values.old) }
-    ensures { Filled (plus_term m s j values.old) (n_of m) values.old values.new }
+fn add_term(tables: &FieldTables, s: u16, j: usize, values: &mut [u16])
+    requires { let m = tables.now.m in (s < 2 ^ m) × (n_of m ≤ length values.old) }
+    ensures { let m = tables.now.m in Filled (plus_term m s j values.old) (n_of m) values.old values.new }
 {
-    let n = field::n_of(m);
+    let n = field::n_of(tables.m);
     let down = j % n;
     let step = n - down;
-    walks::add_multiples(m, powers, logs, s, step, n, values);
+    walks::add_multiples(tables.m, tables.powers, tables.logs, s, step, n, values);
 }
 
 // The first n entries become the values of the polynomial with these coefficients, each where its place is tried.
-fn all_values(m: usize, powers: &[u16], logs: &[u16], sigma: &[u16], values: &mut [u16])
-    requires { (Tables m powers.now logs.now) × ((i : ℕ) → i < length sigma.now → get_or sigma.now i 0 < 2 ^ m) × (n_of m ≤ length values.old) }
-    ensures { Filled (tried m sigma.now (length sigma.now)) (n_of m) values.old values.new }
+fn all_values(tables: &FieldTables, sigma: &[u16], values: &mut [u16])
+    requires { let m = tables.now.m in ((i : ℕ) → i < length sigma.now → get_or sigma.now i 0 < 2 ^ m) × (n_of m ≤ length values.old) }
+    ensures { let m = tables.now.m in Filled (tried m sigma.now (length sigma.now)) (n_of m) values.old values.new }
 {
-    let n = field::n_of(m);
+    let n = field::n_of(tables.m);
     values[..n].fill(0);
     for (j, s) in sigma.iter().enumerate() {
-        add_term(m, powers, logs, *s, j, values);
+        add_term(tables, *s, j, values);
     }
 }
 
@@ -56,86 +58,72 @@ fn note(v: u16, i: usize, t: usize, found: usize, places: &mut [u16]) -> usize
 }
 
 // Writes down all places at which sigma is zero, ascending, and answers how many there are. The search stops when more than t are found.
-fn try_all(
-    m: usize,
-    powers: &[u16],
-    logs: &[u16],
-    t: usize,
-    sigma: &[u16],
-    places: &mut [u16],
-) -> usize
-    requires { (Tables m powers.now logs.now) × ((i : ℕ) → i < length sigma.now → get_or sigma.now i 0 < 2 ^ m) × (t ≤ length places.old) }
-    ensures { Tried m t sigma.now (length sigma.now) result places.new }
+fn try_all(tables: &FieldTables, t: usize, sigma: &[u16], places: &mut [u16]) -> Option<usize>
+    requires { let m = tables.now.m in ((i : ℕ) → i < length sigma.now → get_or sigma.now i 0 < 2 ^ m) × (t ≤ length places.old) }
+    ensures { UpTo t (λ found. Tried tables.now.m t sigma.now (length sigma.now) found places.new) result }
 {
     let mut values = [0; 1023];
-    all_values(m, powers, logs, sigma, &mut values);
-    let n = field::n_of(m);
+    all_values(tables, sigma, &mut values);
+    let n = field::n_of(tables.m);
     let mut found = 0;
     for (i, v) in values[..n].iter().enumerate() {
         found = note(*v, i, t, found, places);
         if t < found {
-            return found;
+            return None;
         }
     }
-    found
+    Some(found)
 }
 
 // Whether the sums of the places are the given ones.
-fn compare(m: usize, powers: &[u16], t: usize, places: &[u16], sums: &[u16]) -> bool
-    requires { (IsField m) × (Powers m powers.now) × (t ≤ 255) × ((i : ℕ) → i < length places.now → get_or places.now i 0 < n_of m)
+fn compare(tables: &FieldTables, t: usize, places: &[u16], sums: &[u16]) -> bool
+    requires { (t ≤ 255) × ((i : ℕ) → i < length places.now → get_or places.now i 0 < n_of tables.now.m)
         × (t ≤ length sums.now) }
-    ensures { Agrees m t places.now sums.now result }
+    ensures { Agrees tables.now.m t places.now sums.now result }
 {
     let mut own = [0; 255];
-    sums::place_sums(m, powers, t, places, &mut own);
+    sums::place_sums(tables.m, tables.powers, t, places, &mut own);
     own[..t] == sums[..t]
 }
 
-// Writes down the places that have these sums, and answers how many there are; a number above t means that no set of at most t places has them.
+// Writes down the places that have these sums, and answers how many there are, if a set of at most t places has them.
 fn find_places(
-    m: usize,
-    powers: &[u16],
-    logs: &[u16],
+    tables: &FieldTables,
     t: usize,
     sums: &[u16],
     sigma: &mut [u16],
     places: &mut [u16],
-) -> usize
-    requires { (Tables m powers.now logs.now) × (t ≤ 255) × (t ≤ length sums.now) × ((i : ℕ) → i < t → get_or sums.now i 0 < 2 ^ m)
+) -> Option<usize>
+    requires { let m = tables.now.m in (t ≤ 255) × (t ≤ length sums.now) × ((i : ℕ) → i < t → get_or sums.now i 0 < 2 ^ m)
         × (sigma.old ≡ replicate 257 0) × (t ≤ length places.old) }
-    ensures { Sought m t sums.now result places.new }
+    ensures { Sought tables.now.m t sums.now result places.new }
 {
-    let l = key::solve(m, powers, logs, t, sums, sigma);
-    if t < l {
-        return l;
+    let l = key::solve(tables.m, tables.powers, tables.logs, t, sums, sigma)?;
+    let found = try_all(tables, t, &sigma[..=l], places)?;
+    if compare(tables, t, &places[..found], sums) {
+        return Some(found);
     }
-    let found = try_all(m, powers, logs, t, &sigma[..=l], places);
-    if t < found {
-        return found;
-    }
-    let same = compare(m, powers, t, &places[..found], sums);
-    if same {
-        return found;
-    }
-    t + 1
+    None
 }
 
 // The set of at most t places whose first t odd sums are the given ones, if there is one. Logarithms are made only where something is wrong.
-fn locate(m: usize, t: usize, powers: &[u16], sums: &[u16]) -> Option<Places>
-    requires { (IsField m) × (Powers m powers.now) × (t ≤ 255) × (t ≤ length sums.now) × ((i : ℕ) → i < t → get_or sums.now i 0 < 2 ^ m) }
-    ensures { Searched m t sums.now result }
+fn locate(table: &PowerTable, t: usize, sums: &[u16]) -> Option<Places>
+    requires { (t ≤ 255) × (t ≤ length sums.now) × ((i : ℕ) → i < t → get_or sums.now i 0 < 2 ^ table.now.m) }
+    ensures { Searched table.now.m t sums.now result }
 {
     let mut room = [0; 255];
     if entries::all_zero(&sums[..t]) {
         return Some(Places { room, count: 0 });
     }
     let mut logs = [0; 1024];
-    field::fill_logs(m, powers, &mut logs);
+    field::fill_logs(table.m, table.powers, &mut logs);
+    let tables = FieldTables {
+        m: table.m,
+        powers: table.powers,
+        logs: &logs,
+    };
     let mut sigma = [0; 257];
-    let count = find_places(m, powers, &logs, t, sums, &mut sigma, &mut room);
-    if t < count {
-        return None;
-    }
+    let count = find_places(&tables, t, sums, &mut sigma, &mut room)?;
     Some(Places { room, count })
 }
 
@@ -157,7 +145,8 @@ pub fn of_word(m: usize, t: usize, word: &[u8]) -> Option<Places>
     let mut powers = [0; 2046];
     field::fill_powers(m, &mut powers);
     let sums = sums::odd_sums(m, t, &powers, word);
-    locate(m, t, &powers, &sums)
+    let table = PowerTable { m, powers: &powers };
+    locate(&table, t, &sums)
 }
 
 // The places with these sums.
@@ -167,5 +156,6 @@ pub fn of_sums(m: usize, t: usize, sums: &[u16]) -> Option<Places>
 {
     let mut powers = [0; 2046];
     field::fill_powers(m, &mut powers);
-    locate(m, t, &powers, sums)
+    let table = PowerTable { m, powers: &powers };
+    locate(&table, t, sums)
 }

@@ -38,6 +38,7 @@ pub fn make_frames<R: Read>(reader: &mut R) {
     // A block of 1,000 bytes ends at most 1,000 lines, and the buffers have room for their frames and names.
     let mut block = [0; 1000];
     let mut maker = Maker::new();
+    // A `while`, since a read moves `left` by what has come.
     let mut left = 64000000;
     while left > 0 {
         let Ok(count) = input::read_after(reader, 0, left, &mut block) else {

@@ -42,4 +42,5 @@ pub record Spliced (c : Code) (stored : Kept) (start : ℕ) (stretch : List ℕ)
 -- where it is refused there is no new record, and the one that it got stands for it
 abbrev pub Splices : Kept → ℕ → List ℕ → Result Kept Refusal → Type 0
 Splices stored start stretch a =
-    CodePromise stored.m stored.t (splice_checks stored start stretch) (λ c. Always (Spliced c stored start stretch)) stored (outcome_of a) (result_unwrap_or a stored)
+    CodePromise stored.m stored.t (splice_checks stored start stretch) (λ c. Always (Spliced c stored start stretch))
+    stored (outcome_of a) (result_unwrap_or a stored)

@@ -5,9 +5,7 @@ use Rattle.bits.specs.Bits.{AreBits}
 use Rattle.bits.specs.Differences.{differences}
 use Rattle.entries.specs.Entries.{Filled}
 use Rattle.field.specs.Sum.{◌⊕◌}
-use Rattle.field.specs.Product.{IsField}
 use Rattle.field.specs.Power.{a, n_of, power}
-use Rattle.field.specs.Tables.{Powers}
 use Rattle.codes.specs.declared.Code.{Code}
 use Rattle.codes.specs.Work.{Known}
 use Rattle.codes.specs.Sums.{sum_over}
@@ -22,18 +20,14 @@ pub record SpliceReady (c : Code) (stored : Kept) (start : ℕ) (stretch : List 
   pub ends : start + length stretch ≤ c.n
   pub bits : AreBits stretch
 
--- the powers of a, and room for the places of the stretch and for t sums
-pub record StretchReady (m : ℕ) (powers : List ℕ) (t start : ℕ) (stretch bits sums : List ℕ) : Type 0 where
-  pub listed : IsField m
-  pub are_powers : Powers m powers
+-- room for the places of the stretch and for t sums
+pub record StretchReady (m t start : ℕ) (stretch bits sums : List ℕ) : Type 0 where
   pub ends : start + length stretch ≤ n_of m
   pub bits_room : n_of m ≤ length bits
   pub sums_room : t ≤ length sums
 
 -- the same for one place
-pub record PlaceReady (m : ℕ) (powers : List ℕ) (t p : ℕ) (bits sums : List ℕ) : Type 0 where
-  pub listed : IsField m
-  pub are_powers : Powers m powers
+pub record PlaceReady (m t p : ℕ) (bits sums : List ℕ) : Type 0 where
   pub below : p < n_of m
   pub bits_room : p < length bits
   pub sums_room : t ≤ length sums

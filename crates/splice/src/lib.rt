@@ -8,6 +8,7 @@ ghost use Rattle.splice.specs.Splice.{Splices, Spliced, splice_checks};
 ghost use Rattle.splice.specs.Work.{SpliceReady, StretchReady, PlaceReady, PlaceSpliced, StretchSpliced};
 
 use codes::Code;
+use field::PowerTable;
 use kept::Kept;
 use sheet::Refusal;
 
@@ -46,46 +47,39 @@ fn spliced(code: Code, stored: Kept, start: usize, stretch: &[u8]) -> Kept
     let mut sums = stored.sums;
     let mut powers = [0; 2046];
     field::fill_powers(code.m, &mut powers);
-    splice_stretch(
-        code.m, &powers, code.t, start, stretch, &mut bits, &mut sums,
-    );
+    let powers = PowerTable {
+        m: code.m,
+        powers: &powers,
+    };
+    splice_stretch(&powers, code.t, start, stretch, &mut bits, &mut sums);
     Kept { m, t, bits, sums }
 }
 
 fn splice_stretch(
-    m: usize,
-    powers: &[u16],
+    powers: &PowerTable,
     t: usize,
     start: usize,
     stretch: &[u8],
     bits: &mut [u8],
     sums: &mut [u16],
 )
-    requires { StretchReady m powers.now t start stretch.now bits.old sums.old }
-    ensures { StretchSpliced m t start stretch.now bits.old sums.old
+    requires { StretchReady powers.now.m t start stretch.now bits.old sums.old }
+    ensures { StretchSpliced powers.now.m t start stretch.now bits.old sums.old
         bits.new sums.new (length stretch.now) }
 {
     for (i, b) in stretch.iter().enumerate() {
-        splice_place(m, powers, t, *b, start + i, bits, sums);
+        splice_place(powers, t, *b, start + i, bits, sums);
     }
 }
 
 // Where place p does not hold b yet, b is written there and the place is added to the sums.
-fn splice_place(
-    m: usize,
-    powers: &[u16],
-    t: usize,
-    b: u8,
-    p: usize,
-    bits: &mut [u8],
-    sums: &mut [u16],
-)
-    requires { PlaceReady m powers.now t p bits.old sums.old }
-    ensures { PlaceSpliced m t b p bits.old sums.old bits.new sums.new }
+fn splice_place(powers: &PowerTable, t: usize, b: u8, p: usize, bits: &mut [u8], sums: &mut [u16])
+    requires { PlaceReady powers.now.m t p bits.old sums.old }
+    ensures { PlaceSpliced powers.now.m t b p bits.old sums.old bits.new sums.new }
 {
     let old = bits[p];
     if old != b {
         bits[p] = b;
-        sums::add_place(m, powers, p, t, sums);
+        sums::add_place(powers.m, powers.powers, p, t, sums);
     }
 }

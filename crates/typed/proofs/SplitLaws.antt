@@ -1,5 +1,6 @@
 -- A line is split at its first blank, in one way.
-use Rattle.std.proofs.Common.{◌≡◌, ◌==◌, ◌∙◌, sym, refl, ap, ap₂, subst, ℕ, ◌+◌, ◌-◌, ◌<◌, ◌≤◌, List, [], ◌∷◌, ◌++◌, length, take, drop, arith, Option, Some, None, Result, Ok, Err}
+use Rattle.std.proofs.Common.{◌≡◌, ◌==◌, ◌∙◌, sym, refl, ap, ap₂, subst, ℕ, ◌+◌, ◌-◌, ◌<◌, ◌≤◌, List, [], ◌∷◌, ◌++◌, length, take, drop, arith, Option, Some}
+use Rattle.std.proofs.Common.{None, Result, Ok, Err}
 use Rattle.std.proofs.Common.{take-append-drop, position, add-one, length-drop, drop-cons}
 use Rattle.std.proofs.Math.Seq.{take-length}
 use Rattle.std.proofs.lemmas.Option.{same_Some, none-some}
@@ -60,7 +61,8 @@ same_parts p q =
 pub alone : {line : List ℕ} {below n : ℕ} {After : List ℕ → Type 0} (p : NumberThen line below n After) → NumberThen line below n (λ r. r ≡ p.rest)
 alone p = record { text = p.text; rest = p.rest; is = p.is; number = p.number; after = refl }
 
-pub says_after : {line rest : List ℕ} {below n m : ℕ} {After : List ℕ → Type 0} → NumberThen line below n (λ r. r ≡ rest) → NumberThen line below m After → After rest
+pub says_after : {line rest : List ℕ} {below n m : ℕ} {After : List ℕ → Type 0} → NumberThen line below n (λ r. r ≡ rest) → NumberThen line below m After
+    → After rest
 says_after {After = After} p q = subst After (sym (same_parts p q).1 ∙ p.after) q.after
 
 -- a line is split at its first blank

@@ -9,6 +9,8 @@ ghost use Rattle.field.specs.Power.{n_of};
 ghost use Rattle.field.specs.Tables.{Powers, Tables};
 ghost use Rattle.walks.specs.Multiples.{plus_multiple, plus_walk, plus_at, plus_four, Walked};
 
+// Here and in `sums` the tables are taken bare, as in `field`, and for the same reason.
+
 // Adds s, s times a^step, s times a^(2 step), .. to the first `count` entries.
 pub fn add_multiples(
     m: usize,

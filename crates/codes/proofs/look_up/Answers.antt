@@ -65,7 +65,7 @@ n_of-n-requires c =
 pub returns-then-row-to : goal.returns-then-row-to
 returns-then-row-to c =
     let row = row_is _ _ _ _ _ c.first_row-from.ensures c.first_row-to.ensures c.find_row-row.ensures in
-    found _ _ _ _ _ (past_tests c.args.m c.if-m-lt3.false c.if-m-gt10.false) row c.if-row-to.true _ c.ks-ks.ensures c.n_of-n.ensures
+    rw c.from-k.ensures (found _ _ _ _ _ (past_tests c.args.m c.if-m-lt3.false c.if-m-gt10.false) row c.if-row-to.true _ c.ks-ks.ensures c.n_of-n.ensures)
 
 pub returns-else-row-to : goal.returns-else-row-to
 returns-else-row-to c =

@@ -13,16 +13,16 @@ added : {m x : ℕ} (y : ℕ) → IsField m → x < 2 ^ m → x ⊕ y % 2 < 2 ^ 
 added {m} y l h = let s = sizes l in sum_bound m h (omega arith)
 
 pub loop-i-init : goal.loop-i-init
-loop-i-init c = let p = c.requires in (p.0, p.1, pow_pos _)
+loop-i-init c = pow_pos _
 
 pub product-requires : goal.product-requires
-product-requires c = let v = c.loop-i.invariant in (v.0, v.2, v.1)
+product-requires c = (c.loop-i.invariant, c.requires)
 
 pub loop-i-preserved : goal.loop-i-preserved
 unfolding ◌⊕◌
 loop-i-preserved c =
-    let v = c.loop-i.invariant in
-    (v.0, v.1, added {x = c.product.result} _ v.0.listed (rw c.product.ensures (product_bound v.0.listed _ _)))
+    let listed = c.args.tables.now.hold.listed in
+    added {x = c.product.result} _ listed (rw c.product.ensures (product_bound listed _ _))
 
 pub returns : goal.returns
-returns c = c.loop-i.invariant.2
+returns c = c.loop-i.invariant

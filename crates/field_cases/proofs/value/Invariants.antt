@@ -1,7 +1,6 @@
 -- The loop keeps the value so far below 2^m.
 use Prim.Native.Nat.{◌^◌, ◌<◌}
-use Rattle.field.specs.Tables.{Tables}
 use Rattle.field_cases.proofs.value.Given as goal
 
 abbrev pub invariant-loop-i : goal.invariant-loop-i
-invariant-loop-i l = Tables l.m l.powers l.logs × l.x < 2 ^ l.m × l.sum < 2 ^ l.m
+invariant-loop-i l = l.sum < 2 ^ l.tables.m

@@ -16,7 +16,7 @@ bounds-b-i c = omega (arith, c.loop-i.invariant.from, c.loop-i.invariant.filled.
 
 pub product-requires : goal.product-requires
 product-requires c =
-    (c.requires.0, c.requires.1, c.requires.4 _ (omega arith))
+    (c.requires.0, c.requires.3 _ (omega arith))
 
 pub offset_bounds-sigma-i : goal.offset_bounds-sigma-i
 offset_bounds-sigma-i c = omega (arith, c.loop-i.invariant.from, c.loop-i.invariant.filled.same)
@@ -29,7 +29,7 @@ bounds-sigma-i-in-loop-i c = omega (arith, c.loop-i.invariant.from, c.loop-i.inv
 
 pub loop-i-preserved : goal.loop-i-preserved
 loop-i-preserved c =
-    mending_next c.loop-i.invariant (omega arith) c.requires.3 c.product.ensures
+    mending_next c.loop-i.invariant (omega arith) c.requires.2 c.product.ensures
 
 pub shape_of-sigma : goal.shape_of-sigma
 shape_of-sigma c = c.loop-i.invariant.filled.same

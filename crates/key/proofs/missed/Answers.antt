@@ -7,7 +7,7 @@ loop-i-init c = crossing_start _ _ _ _ _
 
 pub product-d-requires : goal.product-d-requires
 product-d-requires c =
-    (c.requires.0, c.requires.4 _ (omega arith), c.requires.5 _ (omega arith))
+    (c.requires.3 _ (omega arith), c.requires.4 _ (omega arith))
 
 pub loop-i-preserved : goal.loop-i-preserved
 loop-i-preserved c = crossing_next c.loop-i.invariant (omega arith) c.product-d.ensures

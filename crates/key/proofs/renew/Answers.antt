@@ -9,11 +9,11 @@ use Rattle.key.proofs.renew.Goals as goal
 pub mend-requires : goal.mend-requires
 mend-requires c =
     let p = c.requires in
-    (p.0, p.1, omega arith, omega arith, p.6)
+    (p.0, omega arith, omega arith, p.5)
 
 pub returns : goal.returns
 returns c =
     let p = c.requires in
-    let there = fill_copy {xs = replicate 257 0} c.args.sigma.now c.copy_from_slice.new.self (omega (arith, p.3, space_long refl)) p.5 (search rules) in
-    let back = fill_copy {xs = c.args.b.now} _ c.copy_from_slice-2.new.self p.4 (omega (arith, p.3, there.same, space_long refl)) (search rules) in
+    let there = fill_copy {xs = replicate 257 0} c.args.sigma.now c.copy_from_slice.new.self (omega (arith, p.2, space_long refl)) p.4 (search rules) in
+    let back = fill_copy {xs = c.args.b.now} _ c.copy_from_slice-2.new.self p.3 (omega (arith, p.2, there.same, space_long refl)) (search rules) in
     (c.mend.ensures, fill_as back there.holds)

@@ -29,8 +29,8 @@ bounds-all-i-in-loop-i c = simp length-set (omega (arith, c.loop-i.invariant.sam
 
 pub product-square-requires : goal.product-square-requires
 product-square-requires c =
-    let b = squaring_below c.loop-i.invariant (omega arith) (c.requires.2 _ (omega arith)) c.loop-i.i (omega arith) in
-    (c.requires.0, b, b)
+    let b = squaring_below c.loop-i.invariant (omega arith) (c.requires.1 _ (omega arith)) c.loop-i.i (omega arith) in
+    (b, b)
 
 pub overflow_mul-all-in-loop-i : goal.overflow_mul-all-in-loop-i
 overflow_mul-all-in-loop-i c = omega (arith, c.loop-i.invariant.same)
@@ -46,8 +46,8 @@ bounds-all-i-in-loop-i-2 c = simp length-set (omega (arith, c.loop-i.invariant.s
 
 pub loop-i-preserved : goal.loop-i-preserved
 loop-i-preserved c =
-    squaring_next c.requires.0.listed c.loop-i.invariant (omega arith) c.requires.4
-    (c.requires.2 _ (omega arith)) c.product-square.ensures
+    squaring_next c.args.tables.now.hold.listed c.loop-i.invariant (omega arith) c.requires.3
+    (c.requires.1 _ (omega arith)) c.product-square.ensures
 
 pub shape_of-all : goal.shape_of-all
 shape_of-all c = c.loop-i.invariant.same

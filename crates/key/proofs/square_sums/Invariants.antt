@@ -3,4 +3,4 @@ use Rattle.key.proofs.Squares.{Squaring}
 use Rattle.key.proofs.square_sums.Given as goal
 
 abbrev pub invariant-loop-i : goal.invariant-loop-i
-invariant-loop-i l = Squaring l.m l.t l.sums l.initial.all l.all l.i
+invariant-loop-i l = Squaring l.tables.m l.t l.sums l.initial.all l.all l.i

@@ -7,4 +7,4 @@ use Rattle.locate.proofs.compare.Goals as goal
 pub returns : goal.returns
 returns c =
     let p = c.requires in
-    agrees c.place_sums.ensures (fronts_same c.place_sums.new.sums c.args.sums.now (omega (arith, p.2, c.place_sums.ensures.same)) p.4 c.eq.ensures)
+    agrees c.place_sums.ensures (fronts_same c.place_sums.new.sums c.args.sums.now (omega (arith, p.0, c.place_sums.ensures.same)) p.2 c.eq.ensures)

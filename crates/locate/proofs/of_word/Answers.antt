@@ -16,4 +16,4 @@ pub locate-requires : goal.locate-requires
 locate-requires c =
     let p = c.requires in
     let o = c.odd_sums-sums.ensures in
-    (p.0, c.fill_powers.ensures, p.3, omega (arith, o.long, p.3), sums_below p.0 p.1 o)
+    (p.3, omega (arith, o.long, p.3), sums_below p.0 p.1 o)

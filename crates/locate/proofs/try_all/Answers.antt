@@ -26,29 +26,29 @@ inside values L h e k = omega (arith, all_long values L h e)
 
 pub all_values-requires : goal.all_values-requires
 all_values-requires c =
-    let k = sizes c.requires.0.listed in
-    (c.requires.0, c.requires.1, omega arith)
+    let k = sizes c.args.tables.now.hold.listed in
+    (c.requires.0, omega arith)
 
 pub n_of-n-requires : goal.n_of-n-requires
 n_of-n-requires c =
-    c.requires.0.listed
+    c.args.tables.now.hold.listed
 
 pub slice_bounds-values-end : goal.slice_bounds-values-end
 slice_bounds-values-end c =
-    let k = sizes c.requires.0.listed in
+    let k = sizes c.args.tables.now.hold.listed in
     omega (arith, c.n_of-n.ensures, c.all_values.ensures.same)
 
 pub loop-i-init : goal.loop-i-init
 loop-i-init c = trying_start _ _ _ _ _ _
 
 pub slice_bounds-v-items-end : goal.slice_bounds-v-items-end
-slice_bounds-v-items-end c = sym (all_long c.all_values.new.values c.requires.0.listed c.all_values.ensures.same c.n_of-n.ensures)
+slice_bounds-v-items-end c = sym (all_long c.all_values.new.values c.args.tables.now.hold.listed c.all_values.ensures.same c.n_of-n.ensures)
 
 pub note-found-requires : goal.note-found-requires
 note-found-requires c =
-    let k = sizes c.requires.0.listed in
-    let h = inside c.all_values.new.values c.requires.0.listed c.all_values.ensures.same c.n_of-n.ensures c.loop-i-test.true in
-    (omega (arith, c.n_of-n.ensures), c.loop-i.invariant.room, omega (arith, c.requires.2, c.loop-i.invariant.same))
+    let k = sizes c.args.tables.now.hold.listed in
+    let h = inside c.all_values.new.values c.args.tables.now.hold.listed c.all_values.ensures.same c.n_of-n.ensures c.loop-i-test.true in
+    (omega (arith, c.n_of-n.ensures), c.loop-i.invariant.room, omega (arith, c.requires.1, c.loop-i.invariant.same))
 
 pub shape_of-places-then-t-found : goal.shape_of-places-then-t-found
 shape_of-places-then-t-found c =
@@ -56,20 +56,24 @@ shape_of-places-then-t-found c =
 
 pub returns-then-t-found : goal.returns-then-t-found
 returns-then-t-found c =
-    let h = inside c.all_values.new.values c.requires.0.listed c.all_values.ensures.same c.n_of-n.ensures c.loop-i-test.true in
-    trying_passed c.loop-i.invariant c.n_of-n.ensures h
-    (valued c.args.m _ _ (length c.args.sigma.now) c.args.sigma.now c.all_values.ensures c.n_of-n.ensures h) c.note-found.ensures c.if-t-found.true
+    let h = inside c.all_values.new.values c.args.tables.now.hold.listed c.all_values.ensures.same c.n_of-n.ensures c.loop-i-test.true in (
+      _,
+      c.if-t-found.true,
+      trying_passed c.loop-i.invariant c.n_of-n.ensures h
+          (valued c.args.tables.now.m _ _ (length c.args.sigma.now) c.args.sigma.now c.all_values.ensures c.n_of-n.ensures h) c.note-found.ensures
+          c.if-t-found.true,
+    )
 
 pub loop-i-preserved : goal.loop-i-preserved
 loop-i-preserved c =
-    let h = inside c.all_values.new.values c.requires.0.listed c.all_values.ensures.same c.n_of-n.ensures c.loop-i-test.true in
+    let h = inside c.all_values.new.values c.args.tables.now.hold.listed c.all_values.ensures.same c.n_of-n.ensures c.loop-i-test.true in
     trying_next c.loop-i.invariant c.n_of-n.ensures h
-    (valued c.args.m _ _ (length c.args.sigma.now) c.args.sigma.now c.all_values.ensures c.n_of-n.ensures h) c.note-found.ensures c.if-t-found.false
+    (valued c.args.tables.now.m _ _ (length c.args.sigma.now) c.args.sigma.now c.all_values.ensures c.n_of-n.ensures h) c.note-found.ensures c.if-t-found.false
 
 pub shape_of-places : goal.shape_of-places
 shape_of-places c = c.loop-i.invariant.same
 
 pub returns : goal.returns
 returns c =
-    let h = all_long c.all_values.new.values c.requires.0.listed c.all_values.ensures.same c.n_of-n.ensures in
-    trying_done c.loop-i.invariant c.n_of-n.ensures (omega (arith, c.loop-i-test.false))
+    let h = all_long c.all_values.new.values c.args.tables.now.hold.listed c.all_values.ensures.same c.n_of-n.ensures in
+    (c.loop-i.invariant.room, trying_done c.loop-i.invariant c.n_of-n.ensures (omega (arith, c.loop-i-test.false)))

@@ -11,8 +11,6 @@ splice_place-requires c =
     let v = c.loop-i.invariant in
     let long = stretch_long v (omega (arith, v.within, p.ends, p.bits_room)) in
     record {
-      listed = p.listed;
-      are_powers = p.are_powers;
       below = omega (arith, p.ends);
       bits_room = omega (arith, p.ends, p.bits_room, long);
       sums_room = omega (arith, p.sums_room, v.filled.same);
@@ -22,7 +20,7 @@ pub loop-i-preserved : goal.loop-i-preserved
 loop-i-preserved c =
     let p = c.requires in
     let more = c.loop-i-test.true in
-    stretch_next p.listed c.loop-i.invariant more (omega (arith, p.ends, p.bits_room)) c.splice_place.ensures
+    stretch_next c.args.powers.now.is_field c.loop-i.invariant more (omega (arith, p.ends, p.bits_room)) c.splice_place.ensures
 
 pub shape_of-bits : goal.shape_of-bits
 shape_of-bits c =

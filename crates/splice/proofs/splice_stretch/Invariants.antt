@@ -3,4 +3,4 @@ use Rattle.splice.specs.Work.{StretchSpliced}
 use Rattle.splice.proofs.splice_stretch.Given as goal
 
 abbrev pub invariant-loop-i : goal.invariant-loop-i
-invariant-loop-i l = StretchSpliced l.m l.t l.start l.stretch l.initial.bits l.initial.sums l.bits l.sums l.i
+invariant-loop-i l = StretchSpliced l.powers.m l.t l.start l.stretch l.initial.bits l.initial.sums l.bits l.sums l.i

@@ -9,14 +9,14 @@ use Rattle.splice.proofs.spliced.Goals as goal
 pub splice_stretch-requires : goal.splice_stretch-requires
 splice_stretch-requires c =
     let K = c.requires.known in
+    let whole : Whole c.args.stored = record { bits = search rules; sums = search rules } in
     record {
-      listed = K.of_m.listed;
-      are_powers = c.fill_powers.ensures;
       ends = omega (arith, c.requires.ends, K.is_n);
-      bits_room = omega (arith, (let h : Whole c.args.stored = record { bits = search rules; sums = search rules } in h).bits, K.is_n, K.small);
-      sums_room = omega (arith, (let h : Whole c.args.stored = record { bits = search rules; sums = search rules } in h).sums, K.most);
+      bits_room = omega (arith, whole.bits, K.is_n, K.small);
+      sums_room = omega (arith, whole.sums, K.most);
     }
 
 pub returns : goal.returns
 returns c =
-    spliced_parts c.requires (let h : Whole c.args.stored = record { bits = search rules; sums = search rules } in h) refl refl c.splice_stretch.ensures
+    let whole : Whole c.args.stored = record { bits = search rules; sums = search rules } in
+    spliced_parts c.requires whole refl refl c.splice_stretch.ensures

@@ -1,13 +1,13 @@
 -- The comparison with the mark, both ways.
+use mathlib.Core.Path.{◌∙◌, sym}
 use native.Mathlib.Omega.{arith}
-use lib.ListN.{length-take}
+use lib.Pointwise.{bytes_decides}
+use lib.ListN.{take}
 use Rattle.book.proofs.ReadLaws.{mark_tested}
 use Rattle.book.proofs.reading.has_mark.Goals as goal
 
-pub slice_bounds-same-end : goal.slice_bounds-same-end
-slice_bounds-same-end c = simp length-take (omega arith)
-
 pub returns : goal.returns
 returns c =
-    let compared = c.same.ensures in
-    mark_tested _ _ (omega (arith, c.requires)) c.mark_bytes-mark.ensures compared.0 compared.1
+    let told = bytes_decides (take 4 c.args.trailer.now) c.mark_bytes-mark.result in
+    let e = c.eq.ensures in
+    mark_tested _ _ (omega (arith, c.requires)) c.mark_bytes-mark.ensures (λ f. told.0 (sym e ∙ f)) (λ f. e ∙ told.1 f)

@@ -1,4 +1,4 @@
--- Four bytes are below 256, so the number fits.
+-- std's number of four bytes, highest first.
 use Rattle.book.specs.Read.{number_at}
 use borrow.Author.Rules.{rules}
 use Rattle.book.proofs.reading.number_at.Goals as goal
