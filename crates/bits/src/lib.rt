@@ -30,8 +30,9 @@ pub fn copy_at(dst: &mut [u8], at: usize, src: &[u8])
     requires { at + length src.now ≤ length dst.old }
     ensures { dst.new ≡ paste dst.old at src.now (length src.now) }
 {
-    let end = at + src.len();
-    dst[at..end].copy_from_slice(src);
+    for (i, bit) in src.iter().enumerate() {
+        dst[at + i] = *bit;
+    }
 }
 
 pub fn clear(dst: &mut [u8])

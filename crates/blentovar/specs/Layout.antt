@@ -4,6 +4,7 @@
 use Rattle.std.specs.Prelude.{ℕ, ◌-◌, Result}
 use Rattle.std.specs.Result.{result_unwrap_or}
 use Rattle.sheet.specs.declared.Refusal.{Refusal}
+use Rattle.sheet.specs.declared.Told.{Told}
 use Rattle.sheet.specs.Number.{outcome_told, outcome_number, outcome_of}
 use Rattle.codec.specs.declared.describing.Described.{Described}
 use Rattle.codec.specs.Sizes.{sizes_given}
@@ -40,11 +41,13 @@ laid_out k = record { m = k.m; t = k.t; bits = k.bits; zero_after_bits = 0; sums
 abbrev pub kept_of : Record → Kept
 kept_of r = record { m = r.m; t = r.t; bits = r.bits; sums = r.sums }
 
+-- what is told, and a record
+abbrev pub told_beside : Told → Kept → KeptAnswer
+told_beside told k = record { number = told.number; buffer = told.buffer; place = told.place; «record» = laid_out k }
+
 -- the first record is the one that comes back where there is no new one
 abbrev pub kept_answer : Kept → Result Kept Refusal → KeptAnswer
-kept_answer otherwise x =
-    let told = outcome_told (outcome_of x) in
-    record { number = told.number; buffer = told.buffer; place = told.place; «record» = laid_out (result_unwrap_or x otherwise) }
+kept_answer otherwise x = told_beside (outcome_told (outcome_of x)) (result_unwrap_or x otherwise)
 
 abbrev pub decode_kept_answer : Result ℕ Refusal → DecodeKeptAnswer
 decode_kept_answer x = record { number = outcome_number (outcome_of x); zero_after_number = 0; wrong = result_unwrap_or x 0 }

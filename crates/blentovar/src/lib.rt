@@ -1,4 +1,4 @@
-// The operations under C names, each a thin call of the proved one; blentovar_c exports them. What C would pad is a field that holds 0.
+// The operations under C names, each a thin layer over the proved one; blentovar_c exports them. What C would pad is a field that holds 0.
 // C has no Result, so its structs have the number of the refusal beside the value, and 0 where nothing is refused.
 
 #![tactic(auto)]
@@ -6,7 +6,7 @@
 ghost use Rattle.std.specs.Prelude.{◌≡◌, ◌≤◌};
 ghost use Rattle.blentovar.specs.Answers.{SizesAs, DescribesAs, EncodesAs, DecodesAs, EditsAs, OpensAs, SplicesAs, DecodesKeptAs, MakesAs, ReadsAs};
 ghost use Rattle.blentovar.specs.Answers.{LooksAs, ReadsBookAs, WritesBookAs};
-ghost use Rattle.blentovar.specs.Layout.{sizes_answer, decode_answer, laid_out, kept_of, kept_answer, decode_kept_answer};
+ghost use Rattle.blentovar.specs.Layout.{sizes_answer, decode_answer, laid_out, kept_of, told_beside, kept_answer, decode_kept_answer};
 ghost use Rattle.blentovar.specs.Layout.{read_answer, look_answer, part_answer};
 ghost use Rattle.book.specs.Read.{span_of};
 
@@ -159,17 +159,22 @@ impl From<Record> for Kept {
     }
 }
 
-// `otherwise` is the record that comes back where there is no new one.
-fn kept_answer(otherwise: Kept, given: Result<Kept, Refusal>) -> KeptAnswer
-    ensures { result ≡ kept_answer otherwise given }
+fn told_beside(told: Told, kept: Kept) -> KeptAnswer
+    ensures { result ≡ told_beside told kept }
 {
-    let told = sheet::tell_outcome(&given);
     KeptAnswer {
         number: told.number,
         buffer: told.buffer,
         place: told.place,
-        record: Record::from(given.unwrap_or(otherwise)),
+        record: Record::from(kept),
     }
+}
+
+// `otherwise` is the record that comes back where there is no new one.
+fn kept_answer(otherwise: Kept, given: Result<Kept, Refusal>) -> KeptAnswer
+    ensures { result ≡ kept_answer otherwise given }
+{
+    told_beside(sheet::tell_outcome(&given), given.unwrap_or(otherwise))
 }
 
 impl From<Result<usize, Refusal>> for DecodeKeptAnswer {
@@ -275,13 +280,21 @@ pub fn blentovar_edit(m: usize, t: usize, word: &mut [u8], start: usize, stretch
 pub fn blentovar_open(m: usize, t: usize, word: &[u8]) -> KeptAnswer
     ensures { OpensAs m t word.now result }
 {
-    let zeros = Kept {
-        m: 0,
-        t: 0,
-        bits: [0; 1023],
-        sums: [0; 255],
-    };
-    kept_answer(zeros, kept::open(m, t, word))
+    // As `kept::open` does it, without a Result that holds the record.
+    let checked = kept::checks(m, t, word);
+    let told = sheet::tell_outcome(&checked);
+    match checked {
+        Ok(code) => told_beside(told, kept::opened(code, word)),
+        Err(_) => told_beside(
+            told,
+            Kept {
+                m: 0,
+                t: 0,
+                bits: [0; 1023],
+                sums: [0; 255],
+            },
+        ),
+    }
 }
 
 pub fn blentovar_splice(stored: Record, start: usize, stretch: &[u8]) -> KeptAnswer

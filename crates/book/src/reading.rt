@@ -66,7 +66,7 @@ fn has_mark(trailer: &[u8]) -> bool
     ensures { result ≡ has_mark trailer.now }
 {
     let mark = mark_bytes();
-    trailer[..4] == mark[..]
+    trailer.starts_with(&mark)
 }
 
 // The 32-bit number in four bytes, highest byte first.

@@ -1,20 +1,20 @@
 -- The checks of an operation on a code: the first two, then its own; what they leave, and the one outcome of a promise over them.
-use mathlib.Core.Path.{◌≡◌, ◌∙◌, sym, ap, subst}
+use mathlib.Core.Path.{◌≡◌, ◌∙◌, refl, sym, ap, subst}
 use mathlib.Core.Bool.{true, false, not}
-use mathlib.Core.List.{List}
+use mathlib.Core.List.{List, []}
 use Prim.Native.Nat.{ℕ, suc, ◌≤◌, ◌<◌}
 use native.Mathlib.Decide.{dec_lt}
 use native.Mathlib.Omega.{arith}
 use borrow.Author.Tests.{le-leb, lt-leb, lt-ltb, le-ltb, ltb-true}
 use Rattle.field.specs.Product.{IsField}
 use Rattle.sheet.specs.declared.Refusal.{Refusal}
-use Rattle.sheet.specs.declared.Refusal.TheVariants.{FieldSize, NotListed}
+use Rattle.sheet.specs.declared.Refusal.TheVariants.{FieldSize, NotListed, BitAboveOne}
 use Rattle.sheet.specs.Number.{Outcome}
 use Rattle.std.specs.Prelude.{Result, Ok, Err}
 use Rattle.sheet.specs.Verdict.{Check, verdict}
 use Rattle.sheet.specs.Work.{AllPass}
-use Rattle.sheet.proofs.VerdictLaws.{Verdict, passed, refused, verdict-cases, none_refuses, not_done}
-use Rattle.sheet.proofs.VerdictLaws.{does, promise_one}
+use Rattle.sheet.proofs.VerdictLaws.{Verdict, passed, refused, verdict-cases, none_refuses, earlier_refuse, earlier_pass, not_done}
+use Rattle.sheet.proofs.VerdictLaws.{does, refuses_as, promise_one}
 use Rattle.codes.specs.declared.Code.{Code}
 use Rattle.codes.specs.Table.{first}
 use Rattle.codes.specs.Look.{row_of, is_field, is_listed, code_of, code_checks, code_verdict, CodePromise}
@@ -112,7 +112,39 @@ passes_is v {c} d e = pick (verdict-cases v)
     pick (passed z) = let f : ◌≡◌ {A = Result Code Refusal} (Ok c) (Ok d) = rw z at e in (z, cc)
     pick (refused r z) = absurd (not_both (rw z at e))
 
+refuses_is : (v : Outcome) {r : Refusal} (d : Code) → Err r ≡ passing v d → v ≡ Err r
+refuses_is v {r} d e = pick (verdict-cases v)
+  where
+    pick : Verdict v → v ≡ Err r
+    pick (passed z) = absurd (not_both (sym (rw z at e)))
+    pick (refused s z) = let f : ◌≡◌ {A = Result Code Refusal} (Err r) (Err s) = rw z at e in let g : s ≡ r = cc in z ∙ ap Err g
+
+-- past a look-up that found the code, the operation's own checks decide
+found_rest : {m t : ℕ} {look : Result Code Refusal} {c : Code} (checks : Code → List Check) → look ≡ Ok c → Checked m t no_more look
+    → (c ≡ code_of m t) × (code_verdict m t checks ≡ verdict (checks c))
+found_rest {m} {t} checks e l =
+    let (z, is) = passes_is (code_verdict m t no_more) (code_of m t) (sym e ∙ l.is) in
+    (is, earlier_pass (code_checks m t []) (checks (code_of m t)) z ∙ ap (λ (x : Code). verdict (checks x)) (sym is))
+
 module _ {m t : ℕ} {checks : Code → List Check} {look : Result Code Refusal} where
+  -- a step that looks the code up: it is not found, or the operation's own checks decide
+  pub not_found : {r : Refusal} → look ≡ Err r → Checked m t no_more look → Checked m t checks look
+  not_found e l =
+      let z = earlier_refuse (code_checks m t []) (checks (code_of m t)) (refuses_is (code_verdict m t no_more) (code_of m t) (sym e ∙ l.is)) in
+      record { is = e ∙ rw z }
+
+  pub then_refused : {c : Code} {r : Refusal} → look ≡ Ok c → Checked m t no_more look → verdict (checks c) ≡ Err r → Checked m t checks (Err r)
+  then_refused e l v =
+      let (is, rest) = found_rest checks e l in
+      let z = rest ∙ v in
+      record { is = rw z }
+
+  pub then_passes : {c : Code} → look ≡ Ok c → Checked m t no_more look → verdict (checks c) ≡ Ok tt → Checked m t checks (Ok c)
+  then_passes e l v =
+      let (is, rest) = found_rest checks e l in
+      let z = rest ∙ v in
+      record { is = rw z (ap Ok is) }
+
   -- what the checks leave where all have passed
   passed_past : {c : Code} → look ≡ Ok c → Checked m t checks look
       → (c ≡ code_of m t) × Past m t (verdict (checks (code_of m t))) × (code_verdict m t checks ≡ Ok tt)
@@ -127,12 +159,24 @@ module _ {m t : ℕ} {checks : Code → List Check} {look : Result Code Refusal}
   passed_checks e l = let (is, p, z) = passed_past e l in ap (λ (x : Code). verdict (checks x)) is ∙ p.rest
 
   module _ {L : Type 0} {Does : Code → Outcome → L → Type 0} {stays : L} where
-    -- an operation whose checks have passed
+    -- an operation whose checks have passed, and one that they refuse
     pub on_passed : {c : Code} {answer : Outcome} {left : L} → look ≡ Ok c → Checked m t checks look → Does c answer left
         → CodePromise m t checks Does stays answer left
     on_passed {c} {answer} {left} e l d =
         let (is, p, z) = passed_past e l in
         record { promise = does z (subst (λ (x : Code). Does x answer left) is d) }
+
+    pub on_refused_as : {r : Refusal} {answer : Outcome} {left : L} → look ≡ Err r → Checked m t checks look → answer ≡ Err r → left ≡ stays
+        → CodePromise m t checks Does stays answer left
+    on_refused_as e l a s = record { promise = refuses_as (refuses_is (code_verdict m t checks) (code_of m t) (sym e ∙ l.is)) a s }
+
+    pub on_refused : {r : Refusal} → look ≡ Err r → Checked m t checks look → CodePromise m t checks Does stays (Err r) stays
+    on_refused e l = on_refused_as e l refl refl
+
+-- a check of lent bits names the place that was found
+pub names_place : (buffer : ℕ) {found place : ℕ} → place ≡ found
+    → ◌≡◌ {A = Outcome} (Err (BitAboveOne buffer found)) (Err (BitAboveOne buffer place))
+names_place buffer e = ap (λ (p : ℕ). Err (BitAboveOne buffer p)) (sym e)
 
 -- one outcome, where what is done for a code is one
 pub code_one : {L : Type 0} {m t : ℕ} {checks : Code → List Check} {Does : Code → Outcome → L → Type 0} {stays : L} {x y : Outcome} {left left' : L}

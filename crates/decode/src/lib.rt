@@ -65,7 +65,7 @@ pub fn put_down(bits: &[u8], places: &[u16], word: &mut [u8], list: &mut [u16]) 
     requires { CanPut bits.now places.now word.old list.old }
     ensures { PutDown bits.now places.now list.old result word.new list.new }
 {
-    word.copy_from_slice(bits);
+    bits::copy_at(word, 0, bits);
     bits::flip_all(word, places);
     entries::put_list(places, list);
     places.len()

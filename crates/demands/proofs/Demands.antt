@@ -46,7 +46,7 @@ use Rattle.book.specs.Write.{WritesBook}
 use Rattle.line.specs.Line.{refused_line}
 use Rattle.lister.specs.Listing.{LineOf, Lines, Lists, Steps, frames_of, ListsBook}
 use Rattle.maker.specs.Making.{all_lines, GiveAll}
-use Rattle.demands.specs.Words.{OneOutcome, NeverStruck, TellsWhich, NeverBadBit, OneCondition, RefusedStays, NeverLookedAt}
+use Rattle.demands.specs.Words.{OneOutcome, NeverStruck, TellsWhich, NeverBadBit, OneCondition, RefusedStays, RefusedAs, NeverLookedAt}
 use Rattle.demands.specs.Words.{Numbered, GaloisField, Divides, LeastCommonMultiple, Received, PassesAgain}
 use Rattle.demands.specs.Words.{After, resulting, Elsewhere, edited_message, OnlyStretch}
 use Rattle.demands.specs.Words.{read_as, StuckAt, pad_or_lead, CarriedHome, joined, EndsShort, MakingRun}
@@ -68,6 +68,7 @@ use Rattle.demands.proofs.StuckLine.{stuck_refused, stuck_listed}
 use Rattle.demands.proofs.Struck.{never_answered, mended_again}
 use Rattle.demands.proofs.BadBit.{tells_which, never_bad_bit}
 use Rattle.demands.proofs.Stays.{sizes_stays, describe_stays, decode_stays, decode_kept_stays, read_stays}
+use Rattle.demands.proofs.RefusedAs.{refused_as}
 use Rattle.demands.proofs.Lent.{describe_lent, encode_lent, decode_lent, decode_kept_lent, make_lent, write_book_lent}
 
 pair : {A B : Type 0} {a a' : A} {b b' : B} → (a ≡ a') × (b ≡ b') → ◌≡◌ {A = A × B} (a, b) (a', b')
@@ -157,6 +158,10 @@ demand_1_refused =
       read_book = λ book i x p n. refused_stays (λ a z. always_stays a z) p n;
       write_book = λ p n. refused_stays (λ a z. always_stays a z) p n;
     }
+
+-- Under the C names too, where what comes back is a struct with every value in it.
+pub demand_1_refused_as : RefusedAs
+demand_1_refused_as = refused_as demand_1_refused
 
 pub demand_1_lent : NeverLookedAt
 demand_1_lent =

@@ -20,4 +20,5 @@ pub mod Struck
 pub mod BadBit
 pub mod Stays
 pub mod Lent
+pub mod RefusedAs
 pub mod Demands

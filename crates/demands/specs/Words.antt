@@ -47,6 +47,7 @@ use Rattle.blentovar.specs.declared.DecodeKeptAnswer.{DecodeKeptAnswer}
 use Rattle.blentovar.specs.declared.ReadAnswer.{ReadAnswer}
 use Rattle.blentovar.specs.declared.LookAnswer.{LookAnswer}
 use Rattle.blentovar.specs.declared.PartAnswer.{PartAnswer}
+use Rattle.blentovar.specs.Layout.{laid_out, kept_of}
 use Rattle.blentovar.specs.Answers.{SizesAs, DescribesAs, EncodesAs, DecodesAs, EditsAs, OpensAs, SplicesAs, DecodesKeptAs, MakesAs, ReadsAs}
 use Rattle.blentovar.specs.Answers.{LooksAs, ReadsBookAs, WritesBookAs}
 use Rattle.line.specs.Line.{refused_line}
@@ -193,6 +194,28 @@ pub record RefusedStays : Type 0 where
   pub look_at_book : (book : List ℕ) (x : Result ℕ Refusal) → Looks book x → outcome_of x ≢ Ok tt → result_unwrap_or x 0 ≡ 0
   pub read_book : (book : List ℕ) (i : ℕ) (x : Result Found Refusal) → Finds book i x → outcome_of x ≢ Ok tt → span_of x ≡ empty_span
   pub write_book : {frames lent left : List ℕ} {x : Outcome} → WritesBook frames lent x left → x ≢ Ok tt → left ≡ lent
+
+-- The same under the C names, where a number stands for the outcome: with any but 0, every value beside it is 0 and every lent buffer is as it was; Open gives
+-- a record of zeros, Splice the record it got.
+pub record RefusedAs : Type 0 where
+  pub sizes : {m t : ℕ} {r : SizesAnswer} → SizesAs m t r → r.number ≢ 0 → (r.n ≡ 0) × (r.k ≡ 0)
+  pub describe : {m t : ℕ} {lent left : List ℕ} {r : SizesAnswer} → DescribesAs m t lent r left → r.number ≢ 0
+      → (r.n ≡ 0) × (r.k ≡ 0) × (left ≡ lent)
+  pub encode : {m t : ℕ} {message lent left : List ℕ} {r : Told} → EncodesAs m t message lent r left → r.number ≢ 0 → left ≡ lent
+  pub decode : {m t : ℕ} {received lentWord lentList word list : List ℕ} {r : DecodeAnswer} → DecodesAs m t received lentWord lentList r word list
+      → r.number ≢ 0 → (r.wrong ≡ 0) × (word ≡ lentWord) × (list ≡ lentList)
+  pub edit : {m t start : ℕ} {lent stretch left : List ℕ} {r : Told} → EditsAs m t lent start stretch r left → r.number ≢ 0 → left ≡ lent
+  pub opening : {m t : ℕ} {word : List ℕ} {r : KeptAnswer} → OpensAs m t word r → r.number ≢ 0 → r.record ≡ laid_out zero_kept
+  pub splice : (stored : Record) {start : ℕ} {stretch : List ℕ} {r : KeptAnswer} → SplicesAs stored start stretch r → r.number ≢ 0
+      → r.record ≡ laid_out (kept_of stored)
+  pub decode_kept : (stored : Record) {lentWord lentList word list : List ℕ} {r : DecodeKeptAnswer} → DecodesKeptAs stored lentWord lentList r word list
+      → r.number ≢ 0 → (r.wrong ≡ 0) × (word ≡ lentWord) × (list ≡ lentList)
+  pub make_frame : {house poll counter r : ℕ} {lent left : List ℕ} → MakesAs house poll counter lent r left → r ≢ 0 → left ≡ lent
+  pub read_frame : (frame : List ℕ) {r : ReadAnswer} → ReadsAs frame r → r.number ≢ 0
+      → (r.house ≡ 0) × (r.poll ≡ 0) × (r.counter ≡ 0) × (r.wrong ≡ 0)
+  pub look_at_book : (book : List ℕ) {r : LookAnswer} → LooksAs book r → r.number ≢ 0 → r.count ≡ 0
+  pub read_book : (book : List ℕ) (i : ℕ) {r : PartAnswer} → ReadsBookAs book i r → r.number ≢ 0 → (r.offset ≡ 0) × (r.length ≡ 0)
+  pub write_book : {frames lent left : List ℕ} {r : ℕ} → WritesBookAs frames lent r left → r ≢ 0 → left ≡ lent
 
 -- what an output buffer held before is not looked at: two calls that lend other contents of the same length give the same answer,
 -- and where it is done they leave the same

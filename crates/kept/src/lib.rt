@@ -6,7 +6,7 @@ mod checking;
 mod opening;
 
 pub use checking::is_bad;
-pub use opening::open;
+pub use opening::{checks, open, opened};
 
 // A received word, place by place, kept with its odd sums.
 #[derive(Clone, Copy)]

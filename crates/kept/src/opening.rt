@@ -16,7 +16,8 @@ pub fn open(m: usize, t: usize, word: &[u8]) -> Result<Kept, Refusal>
     Ok(opened(code, word))
 }
 
-fn checks(m: usize, t: usize, word: &[u8]) -> Result<Code, Refusal>
+// The checks of Open. A caller that lays the record out goes on with `opened` itself, since a record in a Result is copied wherever it goes.
+pub fn checks(m: usize, t: usize, word: &[u8]) -> Result<Code, Refusal>
     ensures { Checked m t (open_checks word.now) result }
 {
     let code = codes::look_up(m, t)?;
@@ -30,7 +31,7 @@ fn checks(m: usize, t: usize, word: &[u8]) -> Result<Code, Refusal>
 }
 
 // Past the checks.
-fn opened(code: Code, word: &[u8]) -> Kept
+pub fn opened(code: Code, word: &[u8]) -> Kept
     requires { OpenReady code word.now }
     ensures { Opened word.now code result }
 {

@@ -1,5 +1,5 @@
 -- Frames of bytes, lines stored one after another, and what is held between two reads.
-use mathlib.Core.Path.{◌≡◌, ◌∙◌, refl, sym, ap}
+use mathlib.Core.Path.{◌≡◌, ◌∙◌, refl, sym, ap, subst}
 use mathlib.Core.List.{List, [], ◌++◌}
 use Prim.Native.Nat.{ℕ, ◌+◌, ◌-◌, ◌*◌, ◌/◌, ◌%◌, ◌≤◌, ◌<◌, min}
 use native.Mathlib.Decide.{dec_lt}
@@ -35,6 +35,28 @@ line_put {number} answer frame lent end room r few fits l w =
       put = part_put lent end room fits l w;
       most = omega (arith, writes_fits w, length-take room (drop end lent));
     }
+
+-- the bytes from a frame's start to its end, or to the last byte if that comes first, are the frame
+pub frame_part : (bytes : List ℕ) (from to : ℕ) → from ≤ length bytes → to ≡ min (from + 32) (length bytes)
+    → take (to - from) (drop from bytes) ≡ take 32 (drop from bytes)
+frame_part bytes from to h e = pick (dec_lt (from + 32) (length bytes))
+  where
+    pick : Dec (from + 32 < length bytes) → take (to - from) (drop from bytes) ≡ take 32 (drop from bytes)
+    pick (yes l) = let z : to - from ≡ 32 = omega arith in rw z
+    pick (no l) =
+        let d = length-drop from bytes in
+        take_all (to - from) (drop from bytes) (omega arith) ∙ sym (take_all 32 (drop from bytes) (omega arith))
+
+pub line_added : {number from to next end : ℕ} {lent left : List ℕ} (bytes : List ℕ) → from ≤ length bytes → to ≡ min (from + 32) (length bytes)
+    → AddsLine number (take (to - from) (drop from bytes)) lent end left next → AddsLine number (take 32 (drop from bytes)) lent end left next
+line_added {number} {from} {to} {next} {end} {lent} {left} bytes h e a =
+    subst (λ (frame : List ℕ). AddsLine number frame lent end left next) (frame_part bytes from to h e) a
+
+-- the part between two places is the same whether its end or its start is cut off first
+pub between : (bytes : List ℕ) (from to : ℕ) → from ≤ to → to ≤ length bytes → drop from (take to bytes) ≡ take (to - from) (drop from bytes)
+between bytes from to h l =
+    let e : from + (to - from) ≡ to = omega arith in
+    ap (λ (n : ℕ). drop from (take n bytes)) (sym e) ∙ drop-take from (to - from) bytes
 
 -- the lines of no frame, of one frame more, of all of them
 
@@ -162,7 +184,7 @@ module _ (frames : List ℕ) {got whole : ℕ} (fits : got ≤ length frames) (w
   left_over =
       ap (λ (n : ℕ). take n (copy_within frames whole got 0)) (sym (zero-add (got - whole)))
       ∙ take-paste frames 0 (drop whole frames) (got - whole) (omega arith) (omega (arith, length-drop whole frames))
-      ∙ sym (ap (λ (n : ℕ). drop whole (take n frames)) parts ∙ drop-take whole (got - whole) frames)
+      ∙ sym (between frames whole got (omega arith) fits)
 
 -- one step on the buffers
 pub taken_in : (at : Progress) (came : ℕ) (next : Progress) (frames : List ℕ) {lines frames' lines' : List ℕ} {whole : ℕ} → at.held + came ≤ length frames

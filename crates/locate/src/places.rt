@@ -7,7 +7,7 @@ ghost use Rattle.std.specs.Prelude.{◌≡◌, ◌≤◌, take};
 pub struct Places {
     pub room: [u16; 255],
     pub count: usize,
-    ghost within: { count ≤ 255 },
+    pub ghost within: { count ≤ 255 },
 }
 
 impl Places {
