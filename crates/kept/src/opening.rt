@@ -35,11 +35,13 @@ pub fn opened(code: Code, word: &[u8]) -> Kept
     requires { OpenReady code word.now }
     ensures { Opened word.now code result }
 {
-    let m = code.m;
-    let t = code.t;
-    let sums = locate::odd_sums(m, t, word);
-    let bits = padded(word);
-    Kept { m, t, bits, sums }
+    let Code { m, t, .. } = code;
+    Kept {
+        m,
+        t,
+        bits: padded(word),
+        sums: locate::odd_sums(m, t, word),
+    }
 }
 
 // The word, then zeros.

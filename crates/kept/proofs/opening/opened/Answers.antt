@@ -11,6 +11,6 @@ returns c =
     record {
       m_is = refl;
       t_is = refl;
-      bits_are = c.padded-bits.ensures ∙ ap (λ (x : ℕ). word ++ replicate (1023 - x) 0) c.requires.long;
-      sums_are = c.odd_sums-sums.ensures;
+      bits_are = c.padded.ensures ∙ ap (λ (x : ℕ). word ++ replicate (1023 - x) 0) c.requires.long;
+      sums_are = c.odd_sums.ensures;
     }
