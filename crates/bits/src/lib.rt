@@ -25,7 +25,7 @@ pub fn add_at(dst: &mut [u8], at: usize, src: &[u8])
     }
 }
 
-// Copies src into dst from place `at` on.
+// Copies src into dst from place `at` on. Between two lent buffers `copy_from_slice` would call `memmove`, which the library for C does not need.
 pub fn copy_at(dst: &mut [u8], at: usize, src: &[u8])
     requires { at + length src.now ≤ length dst.old }
     ensures { dst.new ≡ paste dst.old at src.now (length src.now) }

@@ -195,8 +195,8 @@ pub record RefusedStays : Type 0 where
   pub read_book : (book : List ℕ) (i : ℕ) (x : Result Found Refusal) → Finds book i x → outcome_of x ≢ Ok tt → span_of x ≡ empty_span
   pub write_book : {frames lent left : List ℕ} {x : Outcome} → WritesBook frames lent x left → x ≢ Ok tt → left ≡ lent
 
--- The same under the C names, where a number stands for the outcome: with any but 0, every value beside it is 0 and every lent buffer is as it was; Open gives
--- a record of zeros, Splice the record it got.
+-- The same under the C names, where a number stands for the outcome: with any but 0, every value is 0 and every lent buffer is as it was; Open gives a record
+-- of zeros, Splice the record it got. Of buffer and place, which go with 5, TellsWhich speaks.
 pub record RefusedAs : Type 0 where
   pub sizes : {m t : ℕ} {r : SizesAnswer} → SizesAs m t r → r.number ≢ 0 → (r.n ≡ 0) × (r.k ≡ 0)
   pub describe : {m t : ℕ} {lent left : List ℕ} {r : SizesAnswer} → DescribesAs m t lent r left → r.number ≢ 0
